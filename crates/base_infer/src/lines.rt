@@ -56,19 +56,14 @@ pub(crate) fn push_lines(
         | Op::CondBr
         | Op::Switch
         | Op::Ret
-        | Op::Unreachable => push_kept(alloc, tables, inst, lines),
+        | Op::Unreachable => push_kept(tables, inst, lines),
     }
 }
 
-fn push_kept(
-    alloc: Global,
-    tables: &Tables,
-    inst: Inst,
-    lines: &mut Vec<Inst>,
-) -> Result<(), Memory>
+fn push_kept(tables: &Tables, inst: Inst, lines: &mut Vec<Inst>) -> Result<(), Memory>
     ensures { IfOk result (λ _. lines.new.items ≡ lines.old.items ++ kept_line (tabled tables.now) inst ∷ []) }
 {
-    lines.push(kept(alloc, tables, inst)?)?;
+    lines.push(kept(tables, inst))?;
     Ok(())
 }
 
@@ -84,7 +79,7 @@ fn push_merge(
     ensures { IfOk result (λ _. lines.new.items ≡ lines.old.items ++ merged (tabled tables.now) next inst) }
 {
     push_base(alloc, tables, next, is_select, &inst, lines)?;
-    push_kept(alloc, tables, inst, lines)
+    push_kept(tables, inst, lines)
 }
 
 // The base of a phi or select, where that is derived.
@@ -117,7 +112,7 @@ fn push_compare(
     ensures { IfOk result (λ _. lines.new.items ≡ lines.old.items ++ lines_for (tabled tables.now) next inst (Op.Icmp pred)) }
 {
     if !tables.any_derived(inst.operands()) {
-        return push_kept(alloc, tables, inst, lines);
+        return push_kept(tables, inst, lines);
     }
     match pred {
         Pred::Eq => push_equal(alloc, tables, inst, lines),
@@ -129,7 +124,7 @@ fn push_compare(
         | Pred::Sgt
         | Pred::Sge
         | Pred::Slt
-        | Pred::Sle => push_kept(alloc, tables, inst, lines),
+        | Pred::Sle => push_kept(tables, inst, lines),
     }
 }
 
@@ -178,5 +173,5 @@ fn push_checked(
 {
     let address = operand_at(inst.operands(), place);
     lines.push(check_line(alloc, tables, &inst, address)?)?;
-    push_kept(alloc, tables, inst, lines)
+    push_kept(tables, inst, lines)
 }

@@ -17,37 +17,29 @@ use sp_ids::Memory;
 use std::alloc::Global;
 
 /// The instruction itself, over the new numbers.
-pub(crate) fn kept(alloc: Global, tables: &Tables, inst: Inst) -> Result<Inst, Memory>
-    ensures { IfOk result (λ line. line ≡ kept_line (tabled tables.now) inst) }
+pub(crate) fn kept(tables: &Tables, inst: Inst) -> Inst
+    ensures { result ≡ kept_line (tabled tables.now) inst }
 {
-    let (named, op, ty, old_operands, labels, old_bundle) = inst.into_parts();
-    let operands = renumbered(alloc, tables, old_operands.as_slice())?;
-    let bundle = renumbered_bundle(alloc, tables, old_bundle.as_slice())?;
-    Ok(Inst::of(named, op, ty, operands, labels, bundle))
+    let (named, op, ty, mut operands, labels, mut bundle) = inst.into_parts();
+    renumber(tables, operands.as_mut_slice());
+    renumber_bundle(tables, bundle.as_mut_slice());
+    Inst::of(named, op, ty, operands, labels, bundle)
 }
 
-fn renumbered(alloc: Global, tables: &Tables, operands: &[Operand]) -> Result<Operands, Memory>
-    ensures { IfOk result (λ after. after.items ≡ map (now_by tables.now) operands.now) }
+fn renumber(tables: &Tables, operands: &mut [Operand])
+    ensures { operands.new ≡ map (now_by tables.now) operands.old }
 {
-    let mut after = SmallVec::new(alloc);
-    for operand in operands {
-        after.push(tables.operand(*operand))?;
+    for operand in operands.iter_mut() {
+        *operand = tables.operand(*operand);
     }
-    Ok(after)
 }
 
-fn renumbered_bundle(
-    alloc: Global,
-    tables: &Tables,
-    entries: &[(Ty, Operand)],
-) -> Result<Vec<(Ty, Operand)>, Memory>
-    ensures { IfOk result (λ after. after.items ≡ map (λ entry. (entry.0, now_by tables.now entry.1)) entries.now) }
+fn renumber_bundle(tables: &Tables, entries: &mut [(Ty, Operand)])
+    ensures { entries.new ≡ map (λ entry. (entry.0, now_by tables.now entry.1)) entries.old }
 {
-    let mut after = Vec::new(alloc);
-    for (ty, operand) in entries {
-        after.push((*ty, tables.operand(*operand)))?;
+    for entry in entries.iter_mut() {
+        *entry = (entry.0, tables.operand(entry.1));
     }
-    Ok(after)
 }
 
 /// The phi of the bases of a phi's operands, or the select of those of a select's.

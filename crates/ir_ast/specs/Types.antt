@@ -28,5 +28,7 @@ is_first_class _ = false
 
 -- what a function may answer
 abbrev pub is_answer : Ty → Bool
+is_answer Void = true
+is_answer (Int width) = true
+is_answer Ptr = true
 is_answer Token = false
-is_answer _ = true

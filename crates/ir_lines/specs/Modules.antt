@@ -31,7 +31,7 @@ use Rattle.line_tokens.specs.declared.words.Conversion.TheVariants as conversion
 use Rattle.line_parts.specs.Parts.{Val}
 use Rattle.line_parts.specs.Parts as values
 use Rattle.line_parts.specs.Lists.{Given, given, function}
-use Rattle.ir_lines.specs.Statements.{Statement, Line, binary, compare, convert, select, phi, scalar_step, layout_step, load, store, call, jump, branch, switch, switch_case, ret_void, ret, unreachable, statepoint, gc_result, gc_relocate}
+use Rattle.ir_lines.specs.Statements.{Statement, Line, binary, compare, convert, select, phi, scalar_step, layout_step, load, store, call, jump, branch, switch, switch_case, ret_void, ret, unreachable, cast, statepoint, gc_result, gc_relocate}
 use Rattle.ir_lines.specs.Parts.{live_use, token_use, index_use}
 use Rattle.ir_lines.specs.Sections.{LayoutLine, Definition, Naming, BlockLines, layouts_of, definitions_of, arguments_named, values_of, blocks_of, cases_of}
 use Rattle.ir_lines.specs.Places.{place_in, number_of, number_in}
@@ -227,6 +227,9 @@ instruction_said known behind (switch width value default) =
 instruction_said known behind ret_void = Some (instruction None ops.Ret tys.Void [] [])
 instruction_said known behind (ret ty value) = Some (instruction None ops.Ret (type_of ty) (operand_of known ty value ∷ []) [])
 instruction_said known behind unreachable = Some (instruction None ops.Unreachable tys.Void [] [])
+-- a cast, which no module has, is a call that passes nothing: its result keeps its place among the values
+instruction_said known behind (cast result op from value to) =
+    Some (instruction (Some result) (ops.Call (callee_of known []) []) (type_of to) [] [])
 -- a statepoint has its arguments first and then its live entries
 instruction_said known behind (statepoint result made live) =
     Some (instruction (Some result) (ops.Statepoint (wrapped 64 made.id) (callee_of known made.callee) (map given_type made.passed))

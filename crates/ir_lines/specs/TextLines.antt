@@ -1,12 +1,10 @@
--- What the lines of a text that was read are like: each stands where it may, is formed as its form asks, and passes no limit of a line.
+-- What the lines of a text that was read are like: each stands where it may and passes no limit of a line.
 use Rattle.std.specs.Prelude.{◌≡◌, ℕ, ◌≤◌, Bool, true, false, not, ◌&&◌, nat_le, List, [], ◌∷◌, length, Option, Some, None}
 use Rattle.std.specs.List.{All, list_all}
 use Rattle.ir_ast.specs.declared.modules.Form.{Form}
 use Rattle.ir_ast.specs.declared.modules.Form.TheVariants.{Source, Rewritten}
 use Rattle.ir_reader.specs.declared.states.Place.{Place}
 use Rattle.ir_reader.specs.declared.states.Place.TheVariants as places
-use Rattle.line_parts.specs.Parts.{is_value_type, is_answer_type, is_cast_type, is_scalar_type, is_case_value}
-use Rattle.line_parts.specs.Lists.{Given, given, function, is_argument_type, is_task_start}
 use Rattle.ir_reader.specs.Limits.{width_fits, type_fits, value_fits, place_fits, argument_fits, given_fits, entry_value_fits, name_fits, literal_fits, live_fits}
 use Rattle.ir_lines.specs.Statements.{Statement, Line, Guarded, layout, declare, define, close, label, binary, compare, convert, select, phi, scalar_step, layout_step, load, store, call, jump, branch, switch, switch_case, switch_end, ret_void, ret, unreachable, cast, statepoint, gc_result, gc_relocate}
 use Rattle.ir_lines.specs.Parts.{is_of_group}
@@ -109,41 +107,6 @@ statement_fits (gc_result result ty token) = type_fits ty
 statement_fits (gc_relocate result token base derived) = literal_fits base && literal_fits derived
 statement_fits _ = true
 
--- ---- what the forms ask
-
--- only `task_start` takes a function
-abbrev pub given_is_formed : List ℕ → Given → Bool
-given_is_formed callee (given ty value) = is_value_type ty
-given_is_formed callee (function name) = is_task_start callee
-
--- likewise only its type has `ptr`
-abbrev pub call_is_formed : Guarded → Bool
-call_is_formed made =
-    is_answer_type made.signature.answer
-    && (list_all (is_argument_type (is_task_start made.callee)) made.signature.parameters
-    && list_all (given_is_formed made.callee) made.passed)
-
--- its types are of the classes that its form asks, and a phi has an entry
-abbrev pub is_formed : Statement → Bool
-is_formed (layout name fields) = list_all is_value_type fields
-is_formed (declare answer name parameters) =
-    is_answer_type answer && list_all (λ one. is_argument_type (is_task_start name) one.ty) parameters
-is_formed (define answer name arguments strategy) = is_answer_type answer && list_all (λ one. is_argument_type false one.ty) arguments
-is_formed (compare result predicate ty left right) = is_value_type ty
-is_formed (select result condition left_ty left right_ty right) = is_value_type left_ty && is_value_type right_ty
-is_formed (phi result ty entries) = is_value_type ty && nat_le 1 (length entries)
-is_formed (scalar_step result element address width index) = is_scalar_type element
-is_formed (load result ty address) = is_value_type ty
-is_formed (store ty value address) = is_value_type ty
-is_formed (call None answer callee passed) = list_all (given_is_formed callee) passed
-is_formed (call (Some result) answer callee passed) = is_value_type answer && list_all (given_is_formed callee) passed
-is_formed (switch_case width value to) = is_case_value value
-is_formed (ret ty value) = is_value_type ty
-is_formed (cast result op from value to) = is_cast_type from && is_cast_type to
-is_formed (statepoint result made live) = call_is_formed made
-is_formed (gc_result result ty token) = is_value_type ty
-is_formed _ = true
-
 -- ---- what only one of the two forms has or asks
 
 -- only the rewritten form has statepoint groups
@@ -156,7 +119,6 @@ stands_in Rewritten what = true
 pub record IsTextLines (form : Form) (lines : List Line) : Type 0 where
   pub placed : Stand places.Top lines
   pub fit : All (λ l. statement_fits l.says ≡ true) lines
-  pub formed : All (λ l. is_formed l.says ≡ true) lines
   pub own : All (λ l. stands_in form l.says ≡ true) lines
   pub few_relocates : RelocatesAreFew lines
   -- a text within the file limit has no more lines than bytes and one

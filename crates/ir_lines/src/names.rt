@@ -66,10 +66,9 @@ impl<'n> Names<'n> {
         ensures added { OnOk result (self.new ≡ self.old ++ name.now ∷ []) }
         ensures is_new { IfOk result (λ is_new. is_new ≡ is_none (place_in self.old name.now)) }
     {
-        let is_new = self.find(name).is_none();
         self.chains.make_room(self.alloc, self.list.as_slice())?;
         self.list.reserve(1)?;
-        self.chains.link(self.list.as_slice(), name, is_new)?;
+        let is_new = self.chains.link(self.list.as_slice(), name)?;
         self.list.push(name).unwrap();
         Ok(is_new)
     }

@@ -26,14 +26,12 @@ pub enum Did {
     Ends(End),
 }
 
-/// A run: the frames of its task, room for the moves of phis and for what a statepoint keeps, the number of the task and the
-/// frames of the others by number, the heap and where its objects were found last, what is left of the input, and the steps
-/// and events so far.
+/// A run: the frames of its task, room for the moves of phis, the number of the task and the frames of the others by number, the
+/// heap and where its objects were found last, what is left of the input, and the steps and events so far.
 #[derive(Drop)]
 pub struct Executor<'m, 'i> {
     pub run: Task<'m>,
     pub moves: Vec<Move>,
-    pub words: Vec<u64>,
     pub alloc: Global,
     pub task: u64,
     pub tasks: Vec<Option<Task<'m>>>,

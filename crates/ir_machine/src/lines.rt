@@ -18,7 +18,6 @@ ghost use Rattle.ir_machine.specs.Executors.{machinery, seen, DoesSo, GoesOnTo, 
 
 use crate::executor::{Did, Executor, Program};
 use ir_ast::{Callee, Inst, Op, Operand};
-use machine_frames::{keep, write_over};
 use machine_lines::{
     Decoded, Lines, branch_taken, case_taken, computed, go_over, is_plain, label_at, word_at,
 };
@@ -57,6 +56,7 @@ impl<'m, 'i> Executor<'m, 'i> {
         }
     }
 
+    #[inline(always)]
     fn go_over_lines(&mut self, program: &'m Program<'_, '_>)
         ensures over { GoesOver (machinery program.now) (seen self.old) (seen self.new) }
         ensures stands { self.new.heap.stands ≡ self.old.heap.stands }
@@ -83,7 +83,7 @@ impl<'m, 'i> Executor<'m, 'i> {
     {
         match self.run.frame.rest.front() {
             None => Ok(false),
-            Some(parts) => self.fast_step_at(program, parts.0, parts.2),
+            Some(parts) => self.fast_step_at(program, parts.0, parts.1, parts.2),
         }
     }
 
@@ -92,15 +92,17 @@ impl<'m, 'i> Executor<'m, 'i> {
         &mut self,
         program: &'m Program<'_, '_>,
         inst: &Inst,
+        one: &Decoded,
         rest: Lines<'m>,
     ) -> Result<bool, Memory>
         requires stands { self.old.run.frame.rest.insts.now ≡ inst.now ∷ rest.insts.now }
+        requires decoded { one.now ≡ decoded_of inst.now }
         ensures { IfOk result (λ went. GoesOnTo (acts_at (machinery program.now) self.old inst.now rest.entry.insts.now inst.now.op) (seen self.old) went (seen self.new)) }
     {
         match inst.op() {
             Op::Br => self.fast_jump(program, label_at(inst.labels(), 0)),
             Op::CondBr => {
-                let taken = branch_taken(self.word(inst, 0));
+                let taken = branch_taken(self.first(inst, one));
                 self.fast_jump(program, label_at(inst.labels(), taken))
             }
             Op::Statepoint { callee, types, .. } => match callee {
@@ -110,7 +112,7 @@ impl<'m, 'i> Executor<'m, 'i> {
                 }
                 _ => Ok(false),
             },
-            Op::Ret => self.fast_return(program, inst, rest),
+            Op::Ret => self.fast_return(program, inst, one, rest),
             _ => Ok(false),
         }
     }
@@ -145,13 +147,7 @@ impl<'m, 'i> Executor<'m, 'i> {
         if !program.plan.is_empty() {
             return Ok(false);
         }
-        keep(
-            &mut self.words,
-            self.run.frame.registers.as_slice(),
-            inst,
-            arguments,
-        )?;
-        write_over(&mut self.run.stack, self.words.as_slice())?;
+        self.run.keep(inst, arguments)?;
         self.pass_poll(program, inst, rest)?;
         Ok(true)
     }
@@ -174,13 +170,7 @@ impl<'m, 'i> Executor<'m, 'i> {
         if self.run.below.len() >= FRAMES as usize - 1 {
             return Ok(false);
         }
-        keep(
-            &mut self.words,
-            self.run.frame.registers.as_slice(),
-            inst,
-            arguments,
-        )?;
-        write_over(&mut self.run.stack, self.words.as_slice())?;
+        self.run.keep(inst, arguments)?;
         self.go_in(program, inst, rest, func, front(inst.operands(), arguments))?;
         Ok(true)
     }
@@ -214,9 +204,11 @@ impl<'m, 'i> Executor<'m, 'i> {
         &mut self,
         program: &'m Program<'_, '_>,
         inst: &Inst,
+        one: &Decoded,
         rest: Lines<'m>,
     ) -> Result<bool, Memory>
         requires is { inst.now.op ≡ Op.Ret }
+        requires decoded { one.now ≡ decoded_of inst.now }
         ensures { IfOk result (λ went. GoesOnTo (acts_at (machinery program.now) self.old inst.now rest.entry.insts.now inst.now.op) (seen self.old) went (seen self.new)) }
     {
         if self.steps >= program.bound {
@@ -226,7 +218,7 @@ impl<'m, 'i> Executor<'m, 'i> {
             return Ok(false);
         }
         self.steps += 1;
-        let answer = self.word(inst, 0);
+        let answer = self.first(inst, one);
         let left = self.run.leave(&program.code)?;
         if !left {
             return Err(Memory);
@@ -372,13 +364,7 @@ impl<'m, 'i> Executor<'m, 'i> {
         requires decoded { one.now ≡ decoded_of inst.now }
         ensures { IfOk result (DoesSo (calls_kept (machinery program.now) self.old inst.now rest.entry.insts.now callee arguments) self.new) }
     {
-        keep(
-            &mut self.words,
-            self.run.frame.registers.as_slice(),
-            inst,
-            arguments,
-        )?;
-        write_over(&mut self.run.stack, self.words.as_slice())?;
+        self.run.keep(inst, arguments)?;
         self.call(
             program,
             inst,

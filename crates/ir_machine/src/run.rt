@@ -208,7 +208,6 @@ fn opened<'m, 'i>(
     Ok(Executor {
         run,
         moves: Vec::new(alloc),
-        words: Vec::new(alloc),
         alloc,
         task: 0,
         tasks: vec![in alloc; None]?,

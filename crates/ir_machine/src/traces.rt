@@ -14,7 +14,7 @@ ghost use Rattle.ir_machine.specs.Traces.{CallForeseen, IsForeseen, StepForeseen
 use crate::events::flip_of;
 use crate::executor::{Executor, Program};
 use ir_ast::{Callee, Inst, Op};
-use machine_frames::{Task, keep, write_over};
+use machine_frames::Task;
 use moving_heap::Moves;
 use run_traces::{Happening, Room, SlotChange, add_changes, add_moves};
 use sp_ids::Memory;
@@ -70,13 +70,7 @@ impl<'m, 'i> Executor<'m, 'i> {
         ensures spilled { OnOk result (seen self.new ≡ spilled (seen self.old) (line_of self.old.run.frame.next inst.now).inst arguments) }
         ensures heap { self.new.heap ≡ self.old.heap }
     {
-        keep(
-            &mut self.words,
-            self.run.frame.registers.as_slice(),
-            inst,
-            arguments,
-        )?;
-        write_over(&mut self.run.stack, self.words.as_slice())
+        self.run.keep(inst, arguments)
     }
 
     fn foresee_call(

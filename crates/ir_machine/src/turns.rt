@@ -66,7 +66,7 @@ impl<'m, 'i> Executor<'m, 'i> {
     }
 
     // All lines that stay in their frame, all jumps, calls and returns, and all polls at which nothing happens, up to another line.
-    #[inline(always)]
+    #[inline(never)]
     fn fast_steps(&mut self, program: &'m Program<'_, '_>) -> Result<(), Memory>
         ensures { OnOk result (LeadsOn (machinery program.now) false (seen self.old) (seen self.new)) }
     {

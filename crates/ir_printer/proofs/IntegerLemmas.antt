@@ -1,6 +1,6 @@
 -- Spellings of integers.
 use Rattle.std.proofs.Common.{◌≡◌, ◌≢◌, ℕ, ◌*◌, ◌%◌, ◌^◌, ◌<◌, ◌≤◌, true, false, nat_lt, nat_eq, codes, decimal, refl, arith}
-use Rattle.std.specs.Fmt.{signed_decimal}
+use Rattle.std.specs.Fmt.{signed_decimal, digits}
 use Rattle.std.proofs.Math.Nat.{mod-eq_of_lt, pow-le-pow_right, mod-lt}
 use Rattle.std.proofs.lemmas.Bool.{ne_eqb, lt-ltb}
 use Rattle.sp_ids.specs.Numbers.{wrapped, signed}
@@ -34,3 +34,12 @@ integer-wide width number wide word =
     let same : number % 2 ^ width ≡ number = mod-eq_of_lt (omega arith) in
     let test : nat_lt (2 * number) (2 ^ width) ≡ true = lt-ltb _ _ (omega arith) in
     rw (integer-signed width number other, same, test)
+
+-- the widths that most lines have
+pub decimal-64 : decimal 64 ≡ codes "64"
+unfolding digits
+decimal-64 = refl
+
+pub decimal-32 : decimal 32 ≡ codes "32"
+unfolding digits
+decimal-32 = refl

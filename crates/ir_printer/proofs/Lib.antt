@@ -3,3 +3,4 @@ pub mod CallLemmas
 pub mod LineLemmas
 pub mod DeclarationLemmas
 pub mod TextLemmas
+pub mod OperandLemmas

@@ -46,6 +46,10 @@ bundles_text names (value ∷ bundle) [] = codes " [ " ++ (deopt_text names (val
 bundles_text names (value ∷ bundle) (entry ∷ entries) =
     codes " [ " ++ (deopt_text names (value ∷ bundle) ++ (codes ", " ++ (live_text names (entry ∷ entries) ++ codes " ]")))
 
+-- `call T @f(`
+abbrev pub call_start_text : Names → Ty → Callee → List ℕ
+call_start_text names ty callee = codes "call " ++ (type_text ty ++ (codes " @" ++ (callee_name names callee ++ codes "(")))
+
 -- `call T @f(T V, ..)`
 abbrev pub call_text : Names → Callee → List Ty → Instruction → List ℕ
 call_text names callee types inst =

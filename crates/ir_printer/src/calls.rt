@@ -3,9 +3,9 @@ ghost use Rattle.std.specs.Prelude.{◌≡◌, ◌≤◌, ◌++◌, ℕ, List, [
 ghost use Rattle.std.specs.List.{zip};
 ghost use Rattle.ir_ast.specs.declared.types.Ty.TheVariants.{Ptr};
 ghost use Rattle.ir_printer.specs.Operands.{parameter_text, typed_text, argument_text};
-ghost use Rattle.ir_printer.specs.Calls.{callee_name, deopt_text, live_text, bundles_text, call_text, statepoint_words, elementtype_words, end_words, target_text, counted_text, statepoint_text, result_suffix, result_words, result_text, relocate_words, relocate_text};
+ghost use Rattle.ir_printer.specs.Calls.{callee_name, deopt_text, live_text, bundles_text, call_start_text, call_text, statepoint_words, elementtype_words, end_words, target_text, counted_text, statepoint_text, result_suffix, result_words, result_text, relocate_words, relocate_text};
 
-use crate::operands::{Argument, ParameterWord, Typed, Value, operand_of};
+use crate::operands::{Argument, NextTyped, ParameterWord, Typed, Value, operand_of};
 use crate::words::{Integer, TypeWord};
 use ir_ast::{Callee, Inst, Operand, Ty};
 use piece_writer::{
@@ -197,10 +197,6 @@ impl Piece for Call<'_> {
     ghost text = { λ piece. call_text piece.scope.now piece.callee piece.types.now piece.inst.now };
 
     fn put_into<W: PieceSink>(&self, out: &mut W) -> Result<(), Failed> {
-        let name = CalleeName {
-            scope: self.scope,
-            callee: self.callee,
-        };
         let arguments = Joined {
             separator: b", ",
             row: Pairs {
@@ -214,17 +210,47 @@ impl Piece for Call<'_> {
             bundle: self.inst.bundle(),
             entries: &[],
         };
-        (
-            Bytes(b"call "),
-            TypeWord(*self.inst.ty()),
-            Bytes(b" @"),
-            name,
-            Bytes(b"("),
-            arguments,
-            Bytes(b")"),
-            bundles,
-        )
-            .put_into(out)
+        let start = CallStart {
+            scope: self.scope,
+            ty: *self.inst.ty(),
+            callee: self.callee,
+        };
+        (start, arguments, Bytes(b")"), bundles).put_into(out)
+    }
+}
+
+// What a call's line begins with, after its result and before its arguments.
+#[derive(Drop)]
+struct CallStart<'a> {
+    scope: &'a Scope<'a>,
+    ty: Ty,
+    callee: Callee,
+}
+
+impl Piece for CallStart<'_> {
+    ghost text = { λ piece. call_start_text piece.scope.now piece.ty piece.callee };
+
+    fn put_into<W: PieceSink>(&self, out: &mut W) -> Result<(), Failed> {
+        match self.callee {
+            Callee::Check => match self.ty {
+                Ty::Void => out.put(b"call void @gc_check("),
+                ty => (Bytes(b"call "), TypeWord(ty), Bytes(b" @gc_check(")).put_into(out),
+            },
+            callee => {
+                let name = CalleeName {
+                    scope: self.scope,
+                    callee,
+                };
+                (
+                    Bytes(b"call "),
+                    TypeWord(self.ty),
+                    Bytes(b" @"),
+                    name,
+                    Bytes(b"("),
+                )
+                    .put_into(out)
+            }
+        }
     }
 }
 
@@ -433,25 +459,16 @@ impl Piece for Relocate<'_> {
             ty: *self.inst.ty(),
             operand: operand_of(self.inst, 0),
         };
-        let base = Typed {
+        let base = NextTyped {
             scope: self.scope,
             ty: Ty::Int(32),
             operand: operand_of(self.inst, 1),
         };
-        let derived = Typed {
+        let derived = NextTyped {
             scope: self.scope,
             ty: Ty::Int(32),
             operand: operand_of(self.inst, 2),
         };
-        (
-            Bytes(relocate_start()),
-            token,
-            Bytes(b", "),
-            base,
-            Bytes(b", "),
-            derived,
-            Bytes(b")"),
-        )
-            .put_into(out)
+        (Bytes(relocate_start()), token, base, derived, Bytes(b")")).put_into(out)
     }
 }

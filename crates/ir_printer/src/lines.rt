@@ -7,7 +7,7 @@ ghost use Rattle.ir_printer.specs.Operands.{value_text, typed_text, label_text, 
 ghost use Rattle.ir_printer.specs.Lines.{arithmetic_text, comparison_text, conversion_text, select_text, phi_text, phi_entry_text, element_text, place_text, step_text, load_text, store_text, jump_text, branch_text, switch_text, case_text, return_text, operator_text, result_front, line_text};
 
 use crate::calls::{Call, Relocate, ResultCall, Statepoint};
-use crate::operands::{Label, Typed, Value, label_of, operand_of};
+use crate::operands::{Label, NextTyped, NextValue, Typed, Value, label_of, operand_of};
 use crate::words::{TypeWord, predicate_bytes};
 use ir_ast::{Elem, Inst, Name, Op, Operand, Ty};
 use piece_writer::{Bytes, Decimal, Joined, PairPrinter, Pairs, Piece, PieceSink, Printer};
@@ -15,15 +15,17 @@ use print_tables::Scope;
 use sp_ids::BlockId;
 use tool_io::Failed;
 
+// The operands of an arithmetic line or an `icmp`, after its words.
 #[derive(Drop)]
 struct Arithmetic<'a> {
     scope: &'a Scope<'a>,
-    word: &'a [u8],
+    words: &'a [u8],
     inst: &'a Inst,
 }
 
 impl Piece for Arithmetic<'_> {
-    ghost text = { λ piece. arithmetic_text piece.scope.now piece.word.now piece.inst.now };
+    ghost text = { λ piece. piece.words.now ++ (typed_text piece.scope.now piece.inst.now.ty (operand_at piece.inst.now 0)
+        ++ (codes ", " ++ value_text piece.scope.now piece.inst.now.ty (operand_at piece.inst.now 1))) };
 
     fn put_into<W: PieceSink>(&self, out: &mut W) -> Result<(), Failed> {
         let ty = *self.inst.ty();
@@ -32,12 +34,12 @@ impl Piece for Arithmetic<'_> {
             ty,
             operand: operand_of(self.inst, 0),
         };
-        let right = Value {
+        let right = NextValue {
             scope: self.scope,
             ty,
             operand: operand_of(self.inst, 1),
         };
-        (Bytes(self.word), Bytes(b" "), left, Bytes(b", "), right).put_into(out)
+        (Bytes(self.words), left, right).put_into(out)
     }
 }
 
@@ -123,11 +125,14 @@ impl PairPrinter<Operand, BlockId> for PhiEntries<'_> {
             ty: self.ty,
             operand: *operand,
         };
-        let label = Label {
-            scope: self.scope,
-            block: *label,
-        };
-        (Bytes(b"[ "), value, Bytes(b", "), label, Bytes(b" ]")).put_into(out)
+        (
+            Bytes(b"[ "),
+            value,
+            Bytes(b", %"),
+            Bytes(self.scope.block(*label)),
+            Bytes(b" ]"),
+        )
+            .put_into(out)
     }
 }
 
@@ -209,12 +214,12 @@ impl Piece for Step<'_> {
             scope,
             elem: self.elem,
         };
-        let pointer = Typed {
+        let pointer = NextTyped {
             scope,
             ty: Ty::Ptr,
             operand: operand_of(self.inst, 0),
         };
-        let index = Typed {
+        let index = NextTyped {
             scope,
             ty: Ty::Int(self.index_width),
             operand: operand_of(self.inst, 1),
@@ -222,9 +227,7 @@ impl Piece for Step<'_> {
         (
             Bytes(b"getelementptr "),
             element,
-            Bytes(b", "),
             pointer,
-            Bytes(b", "),
             index,
             Place(self.place),
         )
@@ -242,18 +245,12 @@ impl Piece for Load<'_> {
     ghost text = { λ piece. load_text piece.scope.now piece.inst.now };
 
     fn put_into<W: PieceSink>(&self, out: &mut W) -> Result<(), Failed> {
-        let pointer = Typed {
+        let pointer = NextTyped {
             scope: self.scope,
             ty: Ty::Ptr,
             operand: operand_of(self.inst, 0),
         };
-        (
-            Bytes(b"load "),
-            TypeWord(*self.inst.ty()),
-            Bytes(b", "),
-            pointer,
-        )
-            .put_into(out)
+        (Bytes(b"load "), TypeWord(*self.inst.ty()), pointer).put_into(out)
     }
 }
 
@@ -272,12 +269,12 @@ impl Piece for Store<'_> {
             ty: *self.inst.ty(),
             operand: operand_of(self.inst, 0),
         };
-        let pointer = Typed {
+        let pointer = NextTyped {
             scope: self.scope,
             ty: Ty::Ptr,
             operand: operand_of(self.inst, 1),
         };
-        (Bytes(b"store "), value, Bytes(b", "), pointer).put_into(out)
+        (Bytes(b"store "), value, pointer).put_into(out)
     }
 }
 
@@ -453,17 +450,17 @@ impl Piece for Return<'_> {
     }
 }
 
-// What stands before the operator: `%x = `, where the line has a result.
+// What stands before the operator: two spaces, and `%x = ` where the line has a result.
 #[derive(Drop)]
 struct Front<'a>(&'a Option<Name>);
 
 impl Piece for Front<'_> {
-    ghost text = { λ piece. result_front piece.0.now };
+    ghost text = { λ piece. codes "  " ++ result_front piece.0.now };
 
     fn put_into<W: PieceSink>(&self, out: &mut W) -> Result<(), Failed> {
         match self.0 {
-            None => Ok(()),
-            Some(name) => (Bytes(b"%"), Bytes(name.bytes()), Bytes(b" = ")).put_into(out),
+            None => out.put(b"  "),
+            Some(name) => (Bytes(b"  %"), Bytes(name.bytes()), Bytes(b" = ")).put_into(out),
         }
     }
 }
@@ -477,12 +474,12 @@ struct Operation<'a> {
 }
 
 impl<'a> Operation<'a> {
-    fn arithmetic(&self, word: &'a [u8]) -> Arithmetic<'a>
-        ensures { result ≡ record { scope = self.now.scope; word = word.entry; inst = self.now.inst } }
+    fn arithmetic(&self, words: &'a [u8]) -> Arithmetic<'a>
+        ensures { result ≡ record { scope = self.now.scope; words = words.entry; inst = self.now.inst } }
     {
         Arithmetic {
             scope: self.scope,
-            word,
+            words,
             inst: self.inst,
         }
     }
@@ -505,22 +502,22 @@ impl Piece for Operation<'_> {
     fn put_into<W: PieceSink>(&self, out: &mut W) -> Result<(), Failed> {
         let (scope, inst) = (self.scope, self.inst);
         match self.op {
-            Op::Add => self.arithmetic(b"add").put_into(out),
-            Op::Sub => self.arithmetic(b"sub").put_into(out),
-            Op::Mul => self.arithmetic(b"mul").put_into(out),
-            Op::Udiv => self.arithmetic(b"udiv").put_into(out),
-            Op::Sdiv => self.arithmetic(b"sdiv").put_into(out),
-            Op::Urem => self.arithmetic(b"urem").put_into(out),
-            Op::Srem => self.arithmetic(b"srem").put_into(out),
-            Op::And => self.arithmetic(b"and").put_into(out),
-            Op::Or => self.arithmetic(b"or").put_into(out),
-            Op::Xor => self.arithmetic(b"xor").put_into(out),
-            Op::Shl => self.arithmetic(b"shl").put_into(out),
-            Op::Lshr => self.arithmetic(b"lshr").put_into(out),
-            Op::Ashr => self.arithmetic(b"ashr").put_into(out),
+            Op::Add => self.arithmetic(b"add ").put_into(out),
+            Op::Sub => self.arithmetic(b"sub ").put_into(out),
+            Op::Mul => self.arithmetic(b"mul ").put_into(out),
+            Op::Udiv => self.arithmetic(b"udiv ").put_into(out),
+            Op::Sdiv => self.arithmetic(b"sdiv ").put_into(out),
+            Op::Urem => self.arithmetic(b"urem ").put_into(out),
+            Op::Srem => self.arithmetic(b"srem ").put_into(out),
+            Op::And => self.arithmetic(b"and ").put_into(out),
+            Op::Or => self.arithmetic(b"or ").put_into(out),
+            Op::Xor => self.arithmetic(b"xor ").put_into(out),
+            Op::Shl => self.arithmetic(b"shl ").put_into(out),
+            Op::Lshr => self.arithmetic(b"lshr ").put_into(out),
+            Op::Ashr => self.arithmetic(b"ashr ").put_into(out),
             Op::Icmp(pred) => {
-                let compared = self.arithmetic(predicate_bytes(*pred));
-                (Bytes(b"icmp "), compared).put_into(out)
+                let compared = self.arithmetic(b" ");
+                (Bytes(b"icmp "), Bytes(predicate_bytes(*pred)), compared).put_into(out)
             }
             Op::Trunc(width) => self.conversion(b"trunc", *width).put_into(out),
             Op::Zext(width) => self.conversion(b"zext", *width).put_into(out),
@@ -586,6 +583,6 @@ impl Printer<Inst> for Lines<'_> {
             op: inst.op(),
             inst,
         };
-        (Bytes(b"  "), Front(inst.result()), operation, Bytes(b"\n")).put_into(out)
+        (Front(inst.result()), operation, Bytes(b"\n")).put_into(out)
     }
 }

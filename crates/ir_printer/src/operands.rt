@@ -58,12 +58,90 @@ impl Piece for Typed<'_> {
     ghost text = { λ piece. typed_text piece.scope.now piece.ty piece.operand };
 
     fn put_into<W: PieceSink>(&self, out: &mut W) -> Result<(), Failed> {
-        let value = Value {
-            scope: self.scope,
-            ty: self.ty,
-            operand: self.operand,
-        };
-        (TypeWord(self.ty), Bytes(b" "), value).put_into(out)
+        match self.operand {
+            Operand::Value(value) => {
+                let name = self.scope.value(value);
+                match self.ty {
+                    Ty::Ptr => (Bytes(b"ptr addrspace(1) %"), Bytes(name)).put_into(out),
+                    Ty::Int(64) => (Bytes(b"i64 %"), Bytes(name)).put_into(out),
+                    ty => (TypeWord(ty), Bytes(b" %"), Bytes(name)).put_into(out),
+                }
+            }
+            operand => {
+                let value = Value {
+                    scope: self.scope,
+                    ty: self.ty,
+                    operand,
+                };
+                (TypeWord(self.ty), Bytes(b" "), value).put_into(out)
+            }
+        }
+    }
+}
+
+/// An operand of a type, after a comma and the type.
+#[derive(Drop)]
+pub(crate) struct NextTyped<'a> {
+    pub scope: &'a Scope<'a>,
+    pub ty: Ty,
+    pub operand: Operand,
+}
+
+impl Piece for NextTyped<'_> {
+    ghost text = { λ piece. codes ", " ++ typed_text piece.scope.now piece.ty piece.operand };
+
+    fn put_into<W: PieceSink>(&self, out: &mut W) -> Result<(), Failed> {
+        match self.operand {
+            Operand::Value(value) => {
+                let name = self.scope.value(value);
+                match self.ty {
+                    Ty::Ptr => (Bytes(b", ptr addrspace(1) %"), Bytes(name)).put_into(out),
+                    Ty::Int(64) => (Bytes(b", i64 %"), Bytes(name)).put_into(out),
+                    ty => (Bytes(b", "), TypeWord(ty), Bytes(b" %"), Bytes(name)).put_into(out),
+                }
+            }
+            Operand::Int(number) => match self.ty {
+                Ty::Int(64) => (Bytes(b", i64 "), Integer(64, number)).put_into(out),
+                Ty::Int(32) => (Bytes(b", i32 "), Integer(32, number)).put_into(out),
+                ty => (Bytes(b", "), TypeWord(ty), Bytes(b" "), Literal(ty, number)).put_into(out),
+            },
+            operand => {
+                let typed = Typed {
+                    scope: self.scope,
+                    ty: self.ty,
+                    operand,
+                };
+                (Bytes(b", "), typed).put_into(out)
+            }
+        }
+    }
+}
+
+/// An operand of a type, after a comma and without the type.
+#[derive(Drop)]
+pub(crate) struct NextValue<'a> {
+    pub scope: &'a Scope<'a>,
+    pub ty: Ty,
+    pub operand: Operand,
+}
+
+impl Piece for NextValue<'_> {
+    ghost text = { λ piece. codes ", " ++ value_text piece.scope.now piece.ty piece.operand };
+
+    fn put_into<W: PieceSink>(&self, out: &mut W) -> Result<(), Failed> {
+        match self.operand {
+            Operand::Value(value) => {
+                (Bytes(b", %"), Bytes(self.scope.value(value))).put_into(out)
+            }
+            operand => {
+                let value = Value {
+                    scope: self.scope,
+                    ty: self.ty,
+                    operand,
+                };
+                (Bytes(b", "), value).put_into(out)
+            }
+        }
     }
 }
 
@@ -94,12 +172,15 @@ impl Piece for Argument<'_> {
     ghost text = { λ piece. argument_text piece.scope.now piece.ty piece.operand };
 
     fn put_into<W: PieceSink>(&self, out: &mut W) -> Result<(), Failed> {
-        let value = Value {
-            scope: self.scope,
-            ty: self.ty,
-            operand: self.operand,
-        };
-        (ParameterWord(self.ty), Bytes(b" "), value).put_into(out)
+        let (scope, operand) = (self.scope, self.operand);
+        match self.ty {
+            Ty::Void => {
+                let ty = Ty::Void;
+                let value = Value { scope, ty, operand };
+                (Bytes(b"ptr "), value).put_into(out)
+            }
+            ty => Typed { scope, ty, operand }.put_into(out),
+        }
     }
 }
 

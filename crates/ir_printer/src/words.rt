@@ -19,6 +19,7 @@ impl Piece for TypeWord {
     fn put_into<W: PieceSink>(&self, out: &mut W) -> Result<(), Failed> {
         match self.0 {
             Ty::Void => out.put(b"void"),
+            Ty::Int(64) => out.put(b"i64"),
             Ty::Int(width) => (Bytes(b"i"), Decimal(width as u64)).put_into(out),
             Ty::Ptr => out.put(b"ptr addrspace(1)"),
             Ty::Token => out.put(b"token"),

@@ -9,7 +9,7 @@ ghost use Rattle.ir_reader.specs.Text.{is_top, within, dropped_within, tokens_ou
 use crate::faults::LineFault;
 use crate::limits::{answer_fits, counted_as, reading_fits};
 use crate::states::{Counted, Place, State};
-use line_forms::{DroppedLine, Form, Reading, form_in, whole_dropped, whole_kept};
+use line_forms::{DroppedLine, Form, Reading, opened_form, whole_dropped, whole_kept};
 use line_parts::{Cursor, TypeWord};
 use sp_text::Line;
 use std::alloc::Global;
@@ -82,7 +82,7 @@ impl<'a> Step<'a> {
         if cursor.is_at_end() {
             return Ok(None);
         }
-        let Some(form) = form_in(&cursor, state.form) else {
+        let Some((form, name)) = opened_form(&mut cursor, state.form) else {
             return Err(LineFault::NoReading);
         };
         let Some(place) = state.place.behind(form) else {
@@ -94,7 +94,7 @@ impl<'a> Step<'a> {
                 Step::dropped(which, answer)
             }
             _ => {
-                let reading = whole_kept(&mut cursor, alloc, form)?;
+                let reading = whole_kept(&mut cursor, alloc, form, name)?;
                 Step::within(state, place, reading)
             }
         }

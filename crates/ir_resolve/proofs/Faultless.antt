@@ -22,11 +22,10 @@ use Rattle.ir_ast.specs.Faults.DerivedEscapes.{KeepsDerived}
 use Rattle.ir_ast.specs.Faults.PointerOrder.{orders_pointers}
 use Rattle.ir_lines.specs.Statements.{Line}
 use Rattle.ir_lines.specs.Modules.{module_of}
-use Rattle.ir_resolve.specs.Resolved.{Resolved, stands_for}
-use Rattle.ir_resolve.specs.TextFaults.{HasTextFault, pointer_cast}
+use Rattle.ir_resolve.specs.Resolved.{Resolved, resolved}
+use Rattle.ir_resolve.specs.TextFaults.{HasTextFault}
 use Rattle.ir_resolve.specs.ModuleFaults.{Stands, RuleBesidesCalls, CaseAgain, HasModuleFault, type_clash, case_again, entry_has_pred, phi_edges, derived_escapes, no_main, pointer_order, group_shape}
 use Rattle.ir_resolve.specs.FaultSet.{HasNoResolvedFault, of_text, of_module}
-use Rattle.ir_resolve.proofs.NoCasts.{resolved-none}
 
 besides_calls : (scope : Scope) (op : Op) (inst : Instruction) → RuleOf scope op inst → RuleBesidesCalls scope op inst
 besides_calls scope (Call callee types) inst rule = tt
@@ -87,5 +86,4 @@ pub resolved_faultless : (form : Form) (lines : List Line) → ((line code : ℕ
     → HasNoResolvedFault form lines
 resolved_faultless form lines none clean line code (of_text f) = none line code f
 resolved_faultless form lines none clean line code (of_module f) =
-    faultless_unbroken (stands_for form lines) clean line code
-    (subst (λ (text : Resolved). HasModuleFault text line code) (resolved-none form lines (λ l cast. none l 16 (pointer_cast cast))) f)
+    faultless_unbroken (resolved form lines) clean line code f

@@ -10,18 +10,17 @@ use Rattle.ir_ast.specs.Faults.GroupShape.{number_at}
 use Rattle.ir_lines.specs.Statements.{Line, Statement, call}
 use Rattle.ir_lines.specs.Parts.{gives}
 use Rattle.ir_lines.specs.Sections.{Definition, arguments_named, result_named, values_before}
-use Rattle.ir_lines.specs.Modules.{Known, argument_of, instruction_said}
-use Rattle.ir_resolve.specs.Resolved.{Spot, case_lines, spot_said, spots_of, uncast, uncast_line}
+use Rattle.ir_lines.specs.Modules.{Known, known_of, argument_of, instruction_said}
+use Rattle.ir_resolve.specs.Resolved.{Spot, case_lines, spot_said, spots_of}
 use Rattle.ir_resolve.proofs.Bodies.{function_insts}
-use Rattle.ir_resolve.proofs.Casts.{uncast_in}
-use Rattle.ir_resolve.proofs.Values.{bare, made_of, has_result, results, take_front}
+use Rattle.ir_resolve.proofs.Values.{made_of, has_result, results, take_front}
 
 -- the instruction of a line with those behind it, where it has one
 abbrev pub said_at : Known → Line → List Line → Option Instruction
-said_at known l behind = instruction_said known (map uncast_line behind) (uncast l.says)
+said_at known l behind = instruction_said known behind l.says
 
 abbrev pub insts : Known → List Line → List Instruction
-insts known ls = map (λ (spot : Spot). spot.inst) (spots_of known (map uncast_line ls))
+insts known ls = map (λ (spot : Spot). spot.inst) (spots_of known ls)
 
 abbrev pub insts_said : Option Instruction → List Instruction
 insts_said None = []
@@ -36,7 +35,7 @@ pub insts-cons : (known : Known) (l : Line) (ls : List Line) → insts known (l 
 insts-cons known l ls = by (said_at known l ls)
   where
     by : (o : Option Instruction)
-        → map (λ (spot : Spot). spot.inst) (spot_said l.number (case_lines (map uncast_line ls) (uncast l.says)) o ++ spots_of known (map uncast_line ls))
+        → map (λ (spot : Spot). spot.inst) (spot_said l.number (case_lines ls l.says) o ++ spots_of known ls)
         ≡ insts_said o ++ insts known ls
     by None = refl
     by (Some inst) = refl
@@ -94,7 +93,7 @@ front_at known (l ∷ ls) rest place inst e = by (said_at known l (ls ++ rest)) 
 -- ---- numbers
 
 one_given : (known : Known) (rest : List Line) (n : ℕ) (s : Statement)
-    → length (filter has_result (insts_said (instruction_said known rest (uncast s)))) ≡ length (result_named n (gives s))
+    → length (filter has_result (insts_said (instruction_said known rest s))) ≡ length (result_named n (gives s))
 one_given known rest n (call None answer callee passed) = refl
 one_given known rest n (call (Some result) answer callee passed) = refl
 one_given known rest n _ = refl
@@ -104,7 +103,7 @@ results-front : (known : Known) (ls rest : List Line) → length (filter has_res
 results-front known [] rest = refl
 results-front known (l ∷ ls) rest =
     let here = insts_said (said_at known l (ls ++ rest)) in
-    let one = one_given known (map uncast_line (ls ++ rest)) l.number l.says in
+    let one = one_given known (ls ++ rest) l.number l.says in
     let more = results-front known ls rest in
     ap length (filter-append has_result here (front known ls rest))
     ∙ (omega (
@@ -117,15 +116,15 @@ results-front known (l ∷ ls) rest =
 
 -- the instructions of a function, at a place of its text
 pub insts_split : (lines : List Line) (func : Definition) (before rest : List Line) → func.body ≡ before ++ rest
-    → instructions_of (made_of lines func).blocks ≡ front (bare lines func) before rest ++ insts (bare lines func) rest
+    → instructions_of (made_of lines func).blocks ≡ front (known_of lines func) before rest ++ insts (known_of lines func) rest
 insts_split lines func before rest whole =
-    function_insts (bare lines func) (uncast_in func) ∙ ap (insts (bare lines func)) whole ∙ insts-append (bare lines func) before rest
+    function_insts (known_of lines func) func ∙ ap (insts (known_of lines func)) whole ∙ insts-append (known_of lines func) before rest
 
 -- the number of what is given at the place of a line is how many values the function has before it
 pub number-at : (lines : List Line) (func : Definition) (before rest : List Line) → func.body ≡ before ++ rest
-    → number_at (made_of lines func) (length (front (bare lines func) before rest)) ≡ length (values_before func before)
+    → number_at (made_of lines func) (length (front (known_of lines func) before rest)) ≡ length (values_before func before)
 number-at lines func before rest whole =
-    let known = bare lines func in
+    let known = known_of lines func in
     let is = front known before rest in
     let args = arguments_named func.line [] func.arguments in
     let taken : take (length is) (instructions_of (made_of lines func).blocks) ≡ is =

@@ -21,18 +21,17 @@ use Rattle.line_tokens.specs.declared.words.Binary.TheVariants.{Add}
 use Rattle.line_tokens.specs.declared.words.Conversion.{Conversion}
 use Rattle.line_tokens.specs.declared.words.Conversion.TheVariants.{Trunc}
 use Rattle.line_parts.specs.Parts.{Val}
-use Rattle.ir_lines.specs.Statements.{Guarded, Line, Statement, layout, declare, define, close, binary, convert, switch_case, switch_end, cast, statepoint, gc_result, gc_relocate}
+use Rattle.ir_lines.specs.Statements.{Guarded, Line, Statement, layout, declare, define, close, binary, convert, switch_case, switch_end, statepoint, gc_result, gc_relocate}
 use Rattle.ir_lines.specs.Statements as says
 use Rattle.ir_lines.specs.Parts.{live_use, gives}
 use Rattle.ir_lines.specs.Places.{number_in}
 use Rattle.ir_lines.specs.Sections.{Definition, Naming, values_before, values_of}
-use Rattle.ir_lines.specs.Modules.{Known, type_of, given_type, passed_operand, used_operand, callee_of, wrapped, binary_of, conversion_of, instruction, instruction_said}
+use Rattle.ir_lines.specs.Modules.{Known, known_of, type_of, given_type, passed_operand, used_operand, callee_of, wrapped, binary_of, conversion_of, instruction, instruction_said}
 use Rattle.ir_lines.specs.Faults.GroupShape.{Group, is_part}
 use Rattle.ir_lines.specs.TextLines.{place_behind, behind_instruction}
 use Rattle.ir_lines.specs.ReadLines.{is_instruction}
-use Rattle.ir_resolve.specs.Resolved.{uncast, uncast_line}
 use Rattle.ir_resolve.proofs.Booleans.{never, and-left, and-right, both}
-use Rattle.ir_resolve.proofs.Values.{place_split, number_place, names-split, take_front, names-are, bare, made_of, names_of, results}
+use Rattle.ir_resolve.proofs.Values.{place_split, number_place, names-split, take_front, made_of, names_of, results}
 use Rattle.ir_resolve.proofs.Fronts.{insts, front, front-append, front_at, insts_split, number-at, insts_said}
 use Rattle.ir_resolve.proofs.Standing.{StandsIn, after}
 
@@ -60,7 +59,7 @@ same_number known token other e =
     subst (λ (x : List ℕ). (number_in known.values x == number_in known.values token) ≡ true) (bytes_eq-same token other e)
     ((Decides-eqb (number_in known.values token) (number_in known.values token)).1 refl)
 
-part_said : (known : Known) (token : List ℕ) (behind : List Line) (s : Statement) → is_part token s ≡ true → PartSaid known token (instruction_said known behind (uncast s))
+part_said : (known : Known) (token : List ℕ) (behind : List Line) (s : Statement) → is_part token s ≡ true → PartSaid known token (instruction_said known behind s)
 part_said known token behind (gc_result result ty other) e = record { inst = _; is = refl; part = same_number known token other e }
 part_said known token behind (gc_relocate result other base derived) e = record { inst = _; is = refl; part = same_number known token other e }
 part_said known token behind _ e = absurd (let bad : false ≡ true = e in cc)
@@ -82,7 +81,7 @@ conversion_point Trunc to = refl
 conversion_point _ to = refl
 
 point_said : (known : Known) (behind : List Line) (s : Statement)
-    → IfSome (instruction_said known behind (uncast s)) (λ inst. is_statepoint inst.op ≡ true → PointSaid known s inst)
+    → IfSome (instruction_said known behind s) (λ inst. is_statepoint inst.op ≡ true → PointSaid known s inst)
 point_said known behind (statepoint result called live) = λ e. record { result = result; called = called; live = live; says = refl; is = refl }
 point_said known behind (binary result op width left right) = λ e. never (sym (binary_point op) ∙ e)
 point_said known behind (convert result op width value to) = λ e. never (sym (conversion_point op to) ∙ e)
@@ -93,7 +92,6 @@ point_said known behind close = tt
 point_said known behind (says.label name) = tt
 point_said known behind (switch_case width value to) = tt
 point_said known behind switch_end = tt
-point_said known behind (cast result op from value to) = λ e. never e
 point_said known behind _ = λ e. never e
 
 -- the line of a part
@@ -115,7 +113,7 @@ conversion_part Trunc to number os = refl
 conversion_part _ to number os = refl
 
 part_line : (known : Known) (number : ℕ) (behind : List Line) (s : Statement)
-    → IfSome (instruction_said known behind (uncast s)) (λ inst. is_part_made number inst ≡ true → IsPartLine known number s)
+    → IfSome (instruction_said known behind s) (λ inst. is_part_made number inst ≡ true → IsPartLine known number s)
 part_line known number behind (gc_result result ty token) = λ e. record {
   name = token;
   part = bytes_eq-self token;
@@ -137,10 +135,9 @@ part_line known number behind close = tt
 part_line known number behind (says.label name) = tt
 part_line known number behind (switch_case width value to) = tt
 part_line known number behind switch_end = tt
-part_line known number behind (cast result op from value to) = λ e. never e
 part_line known number behind _ = λ e. never e
 
-has_instruction : (known : Known) (behind : List Line) (s : Statement) → is_instruction s ≡ true → (inst : Instruction) × (instruction_said known behind (uncast s) ≡ Some inst)
+has_instruction : (known : Known) (behind : List Line) (s : Statement) → is_instruction s ≡ true → (inst : Instruction) × (instruction_said known behind s ≡ Some inst)
 has_instruction known behind (layout name fields) e = never e
 has_instruction known behind (declare answer name parameters) e = never e
 has_instruction known behind (define answer name arguments strategy) e = never e
@@ -148,7 +145,6 @@ has_instruction known behind close e = never e
 has_instruction known behind (says.label name) e = never e
 has_instruction known behind (switch_case width value to) e = never e
 has_instruction known behind switch_end e = never e
-has_instruction known behind (cast result op from value to) e = (_, refl)
 has_instruction known behind _ e = (_, refl)
 
 -- ---- the parts of a group
@@ -160,7 +156,7 @@ parts_made : (known : Known) (token : List ℕ) (parts rest : List Line) → are
     → AreParts (number_in known.values token) (front known parts rest) × (length (front known parts rest) ≡ length parts)
 parts_made known token [] rest e = (tt, refl)
 parts_made known token (l ∷ ls) rest e =
-    let p = part_said known token (map uncast_line (ls ++ rest)) l.says (and-left (is_part token l.says) (are_parts token ls) e) in
+    let p = part_said known token (ls ++ rest) l.says (and-left (is_part token l.says) (are_parts token ls) e) in
     let more = parts_made known token ls rest (and-right (is_part token l.says) (are_parts token ls) e) in (
       subst (λ (o : Option Instruction). AreParts (number_in known.values token) (insts_said o ++ front known ls rest)) (sym p.is) (p.part, more.0),
       ap (λ (o : Option Instruction). length (insts_said o ++ front known ls rest)) p.is ∙ ap suc more.1,
@@ -180,11 +176,11 @@ parts_lost : (known : Known) (token : List ℕ) → number_in known.values token
 parts_lost known token few [] rest stand all = refl
 parts_lost known token few (l ∷ ls) rest stand all =
     let next = stand.1.next in
-    let says = has_instruction known (map uncast_line (ls ++ rest)) l.says (after l.says next stand.1.is).1 in
+    let says = has_instruction known (ls ++ rest) l.says (after l.says next stand.1.is).1 in
     let own : AreParts (number_in known.values token) (says.0 ∷ front known ls rest) =
     subst (λ (o : Option Instruction). AreParts (number_in known.values token) (insts_said o ++ front known ls rest)) says.1 all in
     let line = subst (λ (o : Option Instruction). IfSome o (λ inst. is_part_made (number_in known.values token) inst ≡ true → IsPartLine known (number_in known.values token) l.says))
-    says.1 (part_line known (number_in known.values token) (map uncast_line (ls ++ rest)) l.says) own.0 in
+    says.1 (part_line known (number_in known.values token) (ls ++ rest) l.says) own.0 in
     let block : next ≡ places.Block = same_Some next places.Block (sym stand.1.is ∙ line.goes) in
     both (is_part token l.says) (are_parts token ls)
     (subst (λ (name : List ℕ). is_part name l.says ≡ true) (same_name known.values line.name token line.numbered few) line.part)
@@ -212,17 +208,17 @@ within_get P (x ∷ xs) ys h = (h 0 (omega arith), within_get P xs ys (λ k with
 -- ---- from the module
 
 pub record GroupSaid (lines : List Line) (func : Definition) (before rest : List Line) (token : List ℕ)
-    (group : ModuleGroup (made_of lines func) (number_in (bare lines func).values token) (length (front (bare lines func) before rest))) : Type 0 where
+    (group : ModuleGroup (made_of lines func) (number_in (known_of lines func).values token) (length (front (known_of lines func) before rest))) : Type 0 where
   pub lined : Group func before token
-  pub point_is : group.statepoint ≡ point_made (bare lines func) token lined.made lined.live
-  pub place_is : length (front (bare lines func) before rest) ≡ group.head + suc (length lined.parts)
+  pub point_is : group.statepoint ≡ point_made (known_of lines func) token lined.made lined.live
+  pub place_is : length (front (known_of lines func) before rest) ≡ group.head + suc (length lined.parts)
 
 pub group_said : (lines : List Line) (func : Definition) → length (values_of func) < 2 ^ 32 → StandsIn places.Entry func.body → (before rest : List Line)
-    → func.body ≡ before ++ rest → (token : List ℕ) → number_in (bare lines func).values token < 2 ^ 32 - 1
-    → (group : ModuleGroup (made_of lines func) (number_in (bare lines func).values token) (length (front (bare lines func) before rest)))
+    → func.body ≡ before ++ rest → (token : List ℕ) → number_in (known_of lines func).values token < 2 ^ 32 - 1
+    → (group : ModuleGroup (made_of lines func) (number_in (known_of lines func).values token) (length (front (known_of lines func) before rest)))
     → GroupSaid lines func before rest token group
 group_said lines func few stand before rest whole token known_token group =
-    let known = bare lines func in
+    let known = known_of lines func in
     let number = number_in known.values token in
     let F = made_of lines func in
     let R = insts known rest in
@@ -231,7 +227,7 @@ group_said lines func few stand before rest whole token known_token group =
     in_front (front known before rest) R group.head group.statepoint group.before (sym (ap (λ (xs : List Instruction). slice_get xs group.head) parts_all) ∙ group.stands) in
     let at = front_at known before rest group.head group.statepoint at_front in
     let said = subst (λ (o : Option Instruction). IfSome o (λ inst. is_statepoint inst.op ≡ true → PointSaid known at.line.says inst)) at.said
-    (point_said known (map uncast_line (at.later ++ rest)) at.line.says) group.op in
+    (point_said known (at.later ++ rest) at.line.says) group.op in
     let more = at.later ++ rest in
     let split : func.body ≡ at.earlier ++ at.line ∷ more = whole ∙ ap (λ (xs : List Line). xs ++ rest) at.whole ∙ append_assoc at.earlier (at.line ∷ at.later) rest in
     let E = front known at.earlier (at.line ∷ more) in
@@ -241,7 +237,7 @@ group_said lines func few stand before rest whole token known_token group =
     ap (λ (s : Statement). names_of (Rattle.ir_lines.specs.Sections.result_named at.line.number (gives s))) said.says in
     let names : names_of (values_of func) ≡ vb ++ said.result ∷ names_of (results more) =
     names-split func at.earlier at.line more split ∙ ap (λ (ns : List (List ℕ)). vb ++ (ns ++ names_of (results more))) own_name in
-    let values : known.values ≡ vb ++ said.result ∷ names_of (results more) = names-are lines func ∙ names in
+    let values : known.values ≡ vb ++ said.result ∷ names_of (results more) = names in
     let numbered : number ≡ length vb =
     sym group.gives ∙ ap (number_at F) at.place_is ∙ number-at lines func at.earlier (at.line ∷ more) split
     ∙ sym (length-map (values_before func at.earlier) (λ (one : Naming). one.name)) in

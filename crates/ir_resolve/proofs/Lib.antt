@@ -1,13 +1,11 @@
 pub mod Booleans
 pub mod Decided
 pub mod Bodies
-pub mod Casts
 pub mod Mains
 pub mod Values
 pub mod Fronts
 pub mod Standing
 pub mod Groups
-pub mod NoCasts
 pub mod Faultless
 pub mod Unbroken
 pub mod Samples

@@ -34,7 +34,7 @@ use Rattle.ir_lines.specs.Faults.NoStrategy.{lacks_strategy}
 use Rattle.ir_lines.specs.Faults.BadLayout.{is_bad_layout}
 use Rattle.ir_lines.specs.Faults.Reserved.{names_value}
 use Rattle.ir_lines.specs.Faults.PointerCast.{is_cast}
-use Rattle.ir_resolve.specs.Resolved.{Resolved, stands_for, resolved}
+use Rattle.ir_resolve.specs.Resolved.{Resolved, resolved}
 use Rattle.ir_resolve.specs.TextFaults.{HasTextFault, misspells, miscounts, name_twice, unknown_name, misspelled, case_width, no_strategy, unknown_extern, bad_layout, reserved, pointer_cast, miscounted}
 use Rattle.ir_resolve.specs.ModuleFaults.{Stands, HasModuleFault, type_clash, case_again, entry_has_pred, phi_edges, derived_escapes, no_main, pointer_order, group_shape}
 use Rattle.ir_resolve.proofs.Mains.{main_resolved}
@@ -205,7 +205,7 @@ has_16 = pointer_cast (in_body casts (λ scope. is_cast) _ 1 _ refl refl refl)
 casts_keep_types : map value_types (resolved Source casts).whole.content.funcs ≡ (tys.Int 64 ∷ tys.Int 64 ∷ []) ∷ []
 casts_keep_types = refl
 
--- with no default for a cast the number of `%z` is that of nothing, and a line before the cast clashes
+-- nor does a line before it, which names a value behind the cast
 abbrev shifted : List Line
 shifted = text_of (
     jump (codes "b")
@@ -219,13 +219,6 @@ shifted = text_of (
     ∷ jump (codes "a")
     ∷ []
     )
-
-shifts : HasModuleFault (stands_for Source shifted) 5 5
-shifts = type_clash (record {
-  at = stood (stands_for Source shifted) _ refl 1 _ refl;
-  its = refl;
-  breaks = λ typed. (let bad : None ≡ Some (tys.Int 64) = typed.operands.0 in cc);
-})
 
 shifts_nothing : map value_types (resolved Source shifted).whole.content.funcs ≡ (tys.Int 64 ∷ tys.Int 64 ∷ tys.Ptr ∷ tys.Int 64 ∷ []) ∷ []
 shifts_nothing = refl

@@ -24,14 +24,12 @@ use Rattle.ir_lines.specs.Statements.{Line}
 use Rattle.ir_lines.specs.Sections.{definitions_of}
 use Rattle.ir_lines.specs.Modules.{module_of}
 use Rattle.ir_lines.specs.Faults.NoMain.{is_main}
-use Rattle.ir_resolve.specs.Resolved.{Resolved, stands_for}
+use Rattle.ir_resolve.specs.Resolved.{Resolved, resolved}
 use Rattle.ir_resolve.specs.ModuleFaults.{Stands, its_line, its_part, IsTypedBesidesCalls, HasModuleFault, type_clash, case_again, entry_has_pred, phi_edges, derived_escapes, no_main, pointer_order, group_shape}
-use Rattle.ir_resolve.specs.TextFaults.{pointer_cast}
-use Rattle.ir_resolve.specs.FaultSet.{HasNoResolvedFault, of_text, of_module}
+use Rattle.ir_resolve.specs.FaultSet.{HasNoResolvedFault, of_module}
 use Rattle.ir_resolve.proofs.Booleans.{not-true, not-false}
 use Rattle.ir_resolve.proofs.Decided.{typed_holds, phi_holds, shape_holds}
 use Rattle.ir_resolve.proofs.Mains.{has_main, main_resolved}
-use Rattle.ir_resolve.proofs.NoCasts.{resolved-none}
 
 abbrev pub IsUnbroken : Resolved → Type 0
 IsUnbroken text = (line code : ℕ) → ¬ HasModuleFault text line code
@@ -116,13 +114,11 @@ module _ (text : Resolved) (none : IsUnbroken text) (number : ℕ) (func : Funct
       shape_holds func place inst inst.op (λ lacks.
       none (its_line text (at place inst is)) 18 (group_shape rewritten (record { at = at place inst is; its = refl; breaks = lacks })))
 
-pub unbroken_main : (form : Form) (lines : List Line) → IsUnbroken (stands_for form lines) → HasMain (module_of form lines).content
+pub unbroken_main : (form : Form) (lines : List Line) → IsUnbroken (resolved form lines) → HasMain (module_of form lines).content
 unbroken_main form lines none =
     has_main form lines (not-false (is_main (find (λ func. bytes_eq func.name (codes "main")) (definitions_of lines))) (λ lacks.
     none 0 11 (no_main refl (main_resolved form lines 0 (record { at_no_line = refl; lacks = lacks })))))
 
--- a text without a fault has none of its own, so it has no cast, and none of its module
-pub unbroken_of : (form : Form) (lines : List Line) → HasNoResolvedFault form lines → IsUnbroken (stands_for form lines)
-unbroken_of form lines none line code f =
-    none line code (of_module (subst (λ (text : Resolved). HasModuleFault text line code)
-    (sym (resolved-none form lines (λ l cast. none l 16 (of_text (pointer_cast cast))))) f))
+-- a text without a fault has none of its module
+pub unbroken_of : (form : Form) (lines : List Line) → HasNoResolvedFault form lines → IsUnbroken (resolved form lines)
+unbroken_of form lines none line code f = none line code (of_module f)

@@ -15,8 +15,6 @@ use Rattle.ir_lines.specs.Parts.{gives}
 use Rattle.ir_lines.specs.Places.{place_in, number_of, number_in}
 use Rattle.ir_lines.specs.Sections.{Definition, Naming, result_named, arguments_named, values_before, values_of}
 use Rattle.ir_lines.specs.Modules.{Known, known_of, function_of}
-use Rattle.ir_resolve.specs.Resolved.{uncast_line}
-use Rattle.ir_resolve.proofs.Casts.{uncast_in, values-same}
 use Rattle.ir_lines.specs.Scope.{scope_of, value_named}
 
 -- ---- the first place of a name
@@ -68,17 +66,11 @@ results ls = flat_map (λ l. result_named l.number (gives l.says)) ls
 
 -- ---- the place of a result
 
-abbrev pub bare : List Line → Definition → Known
-bare lines func = known_of (map uncast_line lines) (uncast_in func)
-
 abbrev pub made_of : List Line → Definition → Function
-made_of lines func = function_of (bare lines func) (uncast_in func)
+made_of lines func = function_of (known_of lines func) func
 
 abbrev pub names_of : List Naming → List (List ℕ)
 names_of ns = map (λ one. one.name) ns
-
-pub names-are : (lines : List Line) (func : Definition) → (bare lines func).values ≡ names_of (values_of func)
-names-are lines func = ap names_of (values-same func)
 
 results-append : (a b : List Line) → results (a ++ b) ≡ results a ++ results b
 results-append [] b = refl
@@ -105,10 +97,10 @@ take_front {A} (x ∷ xs) ys = ap (λ (zs : List A). x ∷ zs) (take_front xs ys
 -- ---- a token that has a name
 
 pub token_numbered : (lines : List Line) (func : Definition) → length (values_of func) < 2 ^ 32 → (token : List ℕ)
-    → is_none (value_named (scope_of lines func) token) ≡ false → number_in (bare lines func).values token < 2 ^ 32 - 1
+    → is_none (value_named (scope_of lines func) token) ≡ false → number_in (known_of lines func).values token < 2 ^ 32 - 1
 token_numbered lines func few token known =
     let s = stands (λ (one : Naming). one.name) (values_of func) token known in
-    let is : number_in (bare lines func).values token ≡ s.place =
-    ap (λ (ns : List (List ℕ)). number_in ns token) (names-are lines func) ∙ number-is (λ (one : Naming). one.name) (values_of func) token s few in
+    let is : number_in (known_of lines func).values token ≡ s.place =
+    number-is (λ (one : Naming). one.name) (values_of func) token s few in
     let below = stands_below (λ (one : Naming). one.name) (values_of func) token s in
     omega (arith, is, below)

@@ -4,19 +4,9 @@ use Rattle.std.specs.Prelude.{ℕ, List, [], ◌∷◌, ◌++◌, map, Option, S
 use Rattle.ir_ast.specs.declared.modules.Form.{Form}
 use Rattle.ir_ast.specs.Insts.{Instruction}
 use Rattle.ir_ast.specs.Modules.{LinedModule}
-use Rattle.ir_lines.specs.Statements.{Statement, Line, call, cast, switch}
+use Rattle.ir_lines.specs.Statements.{Statement, Line, switch}
 use Rattle.ir_lines.specs.Sections.{Definition, definitions_of, cases_of}
 use Rattle.ir_lines.specs.Modules.{Known, known_of, instruction_said, module_of}
-
--- ---- casts
-
--- a cast, which no module has, stands for a call that passes nothing: its result keeps its place among the values
-abbrev pub uncast : Statement → Statement
-uncast (cast result op from value to) = call (Some result) to [] []
-uncast what = what
-
-abbrev pub uncast_line : Line → Line
-uncast_line l = record { number = l.number; says = uncast l.says }
 
 -- ---- the lines of cases
 
@@ -48,14 +38,11 @@ pub record Resolved : Type 0 where
 abbrev pub function_cases : List Line → Definition → List (List ℕ)
 function_cases lines func = map (λ spot. spot.cases) (spots_of (known_of lines func) func.body)
 
-abbrev pub stands_for : Form → List Line → Resolved
-stands_for form lines = record {
+abbrev pub resolved : Form → List Line → Resolved
+resolved form lines = record {
   whole = module_of form lines;
   cases = map (function_cases lines) (definitions_of lines);
 }
-
-abbrev pub resolved : Form → List Line → Resolved
-resolved form lines = stands_for form (map uncast_line lines)
 
 abbrev pub cases_at : List (List (List ℕ)) → ℕ → ℕ → List ℕ
 cases_at cases func place = unwrap_or (slice_get (unwrap_or (slice_get cases func) []) place) []

@@ -16,11 +16,10 @@ use Rattle.ir_lines.specs.Modules.{module_of}
 use Rattle.ir_lines.specs.Notes.{Notes}
 use Rattle.ir_lines.specs.Views.{seen_lines}
 use Rattle.ir_lines.proofs.NoteLemmas.{Either, notes-then, notes-same, notes-none}
-use Rattle.ir_resolve.specs.Resolved.{Resolved, resolved}
-use Rattle.ir_resolve.specs.TextFaults.{HasTextFault, pointer_cast}
+use Rattle.ir_resolve.specs.Resolved.{resolved}
+use Rattle.ir_resolve.specs.TextFaults.{HasTextFault}
 use Rattle.ir_resolve.specs.ModuleFaults.{HasModuleFault}
 use Rattle.ir_resolve.specs.FaultSet.{HasResolvedFault, HasNoResolvedFault, of_text, of_module}
-use Rattle.ir_resolve.proofs.NoCasts.{resolved-none}
 use Rattle.module_laws.specs.TextFunctions.{IsTextFunction}
 use Rattle.module_laws.proofs.ReadTexts.{read-lines}
 use Rattle.module_laws.proofs.Rising.{lines-rise}
@@ -64,12 +63,6 @@ resolved-noted form lines noted found whole cases is are own its =
     (to-either form lines) (from-either form lines)
     (notes-then None noted found (OfText form lines) (OfModule (resolved form lines).whole (resolved form lines).cases) own both)
 
--- a text without a fault stands for the module that it resolves to
-pub resolved-module : (form : Form) (lines : List Line) (whole : LinedModule) → HasNoResolvedFault form lines → whole ≡ (resolved form lines).whole
-    → whole ≡ module_of form lines
-resolved-module form lines whole none is =
-    is ∙ ap (λ (text : Resolved). text.whole) (resolved-none form lines (λ line cast. none line 16 (of_text (pointer_cast cast))))
-
 -- ---- of readings
 
 -- what was noted of the readings in their form, whose module and cases these are
@@ -88,10 +81,9 @@ text-unbroken r found is noted =
     notes-none (OfEither r.form (seen_lines r.lines)) (subst (λ (f : Option Fault). Notes None f (OfEither r.form (seen_lines r.lines))) is noted)
 
 pub text-module : (r : Readings) (form : Form) (ls : List NumberedReading) → form ≡ r.form → ls ≡ r.lines → (whole : LinedModule)
-    → HasNoResolvedFault r.form (seen_lines r.lines) → whole ≡ (resolved form (seen_lines ls)).whole → whole ≡ module_of r.form (seen_lines r.lines)
-text-module r form ls f l whole none is =
-    resolved-module r.form (seen_lines r.lines) whole none
-    (is ∙ ap (λ (m : Form). (resolved m (seen_lines ls)).whole) f ∙ ap (λ (xs : List NumberedReading). (resolved r.form (seen_lines xs)).whole) l)
+    → whole ≡ (resolved form (seen_lines ls)).whole → whole ≡ module_of r.form (seen_lines r.lines)
+text-module r form ls f l whole is =
+    is ∙ ap (λ (m : Form). module_of m (seen_lines ls)) f ∙ ap (λ (xs : List NumberedReading). module_of r.form (seen_lines xs)) l
 
 -- ---- the answer
 

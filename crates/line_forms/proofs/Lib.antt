@@ -1,3 +1,4 @@
 pub mod FamilyLines
 pub mod Openings
+pub mod Operators
 pub mod Segments

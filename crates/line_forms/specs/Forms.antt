@@ -242,6 +242,32 @@ unfoldable pub form_in : TextForm → List Tok → Option Form
 form_in text_forms.Source ts = form_of ts
 form_in text_forms.Rewritten ts = grouped_form ts (form_of ts)
 
+-- lines of an operator: `%x =`, its word, and what it works on
+abbrev pub is_operator_form : Form → Bool
+is_operator_form (forms.Binary op) = true
+is_operator_form (forms.Convert op) = true
+is_operator_form (forms.Cast op) = true
+is_operator_form forms.Compare = true
+is_operator_form forms.Select = true
+is_operator_form forms.Phi = true
+is_operator_form forms.ScalarElement = true
+is_operator_form forms.LayoutElement = true
+is_operator_form forms.Load = true
+is_operator_form _ = false
+
+-- the word is the operator of the form
+abbrev pub is_operator : Form → List ℕ → Bool
+is_operator (forms.Binary op) word = bytes_eq word (binary_word op)
+is_operator (forms.Convert op) word = bytes_eq word (conversion_word op)
+is_operator (forms.Cast op) word = bytes_eq word (cast_word op)
+is_operator forms.Compare word = bytes_eq word (codes "icmp")
+is_operator forms.Select word = bytes_eq word (codes "select")
+is_operator forms.Phi word = bytes_eq word (codes "phi")
+is_operator forms.ScalarElement word = bytes_eq word (codes "getelementptr")
+is_operator forms.LayoutElement word = bytes_eq word (codes "getelementptr")
+is_operator forms.Load word = bytes_eq word (codes "load")
+is_operator _ word = false
+
 -- lines that are read and say nothing
 abbrev pub is_dropped_form : Form → Bool
 is_dropped_form (forms.Dropped which) = true

@@ -1,5 +1,5 @@
 -- A reading as its form and what it says at the slots of that form.
-use Rattle.std.specs.Prelude.{◌≡◌, ℕ, List, [], ◌∷◌, map, Option, Some, None, Result, Ok, Err, if◌then◌else◌}
+use Rattle.std.specs.Prelude.{◌≡◌, ℕ, List, [], ◌∷◌, drop, map, is_some, Option, Some, None, Result, Ok, Err, if◌then◌else◌}
 use Rattle.line_forms.specs.declared.forms.DroppedLine.{DroppedLine}
 use Rattle.line_forms.specs.declared.forms.DroppedLine.TheVariants as drop_lines
 use Rattle.line_forms.specs.declared.forms.Form.{Form}
@@ -13,8 +13,9 @@ use Rattle.line_parts.specs.declared.faults.Stop.{Stop}
 use Rattle.line_parts.specs.declared.faults.Stop.TheVariants as stops
 use Rattle.line_parts.specs.Gives.{Found, after, is_nil}
 use Rattle.line_parts.specs.Seen.{seen_value, seen_argument, seen_passed, seen_entry}
-use Rattle.line_forms.specs.Forms.{fit}
-use Rattle.line_forms.specs.Slots.{Item, name, layout_name, width, ty, value, pred, scalar, layout, place, fields, entries, declared, defined, called, strategy, types, handed, live, literal, family_answer}
+use Rattle.ir_ast.specs.declared.modules.Form.{Form as TextForm}
+use Rattle.line_forms.specs.Forms.{slots, fit, form_in, is_operator_form}
+use Rattle.line_forms.specs.Slots.{Item, parse, name, layout_name, width, ty, value, pred, scalar, layout, place, fields, entries, declared, defined, called, strategy, types, handed, live, literal, family_answer}
 
 -- a line that is made of tokens: its form, and what it says at the form's slots
 pub record Line : Type 0 where
@@ -62,6 +63,19 @@ seen (readings.GcRelocate x token b d) = of_form forms.GcRelocate (name x.now �
 -- a front of this form
 unfoldable pub line_at : Form → List Tok → Found Said
 line_at form ts = after (fit form ts) (λ items rest. Some (of_form form items, rest))
+
+-- a front of an operator's form, of which `%x =` and the word, the first five slots, stand before these tokens
+abbrev pub behind_operator : Form → List ℕ → List Tok → Found Said
+behind_operator form x ts = after (parse (drop 5 (slots form)) ts) (λ items rest. Some (of_form form (name x ∷ items), rest))
+
+-- a front of this form, from its first token on, or from behind the operator where the result is known
+abbrev pub opened_at : Form → Option (List ℕ) → List Tok → Found Said
+opened_at form None ts = line_at form ts
+opened_at form (Some x) ts = behind_operator form x ts
+
+-- The line has this form, and what it says is told from these tokens on, which stand behind the operator if it has one.
+abbrev pub Opens : TextForm → List Tok → Form → Option (List ℕ) → List Tok → Type 0
+Opens text ts form x rest = (form_in text ts ≡ Some form) × (is_some x ≡ is_operator_form form) × (line_at form ts ≡ opened_at form x rest)
 
 -- what a whole line says: nothing stands behind it
 abbrev pub ended : Found Said → Option Said

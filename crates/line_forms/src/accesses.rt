@@ -2,7 +2,7 @@
 #![tactic(auto, unfolding(crate::specs::Seen::line_at, crate::specs::Forms::fit, crate::specs::Slots::parse, crate::specs::Slots::part, line_parts::specs::Gives::after))]
 
 ghost use Rattle.line_parts.specs.Gives.{Gives};
-ghost use Rattle.line_forms.specs.Seen.{seen, line_at};
+ghost use Rattle.line_forms.specs.Seen.{seen, line_at, behind_operator};
 
 use crate::forms::Form;
 use crate::readings::Reading;
@@ -10,12 +10,9 @@ use line_parts::{Cursor, Stop};
 use line_tokens::{Dropped, Flags};
 use std::alloc::Global;
 
-pub fn scalar_element<'a>(cursor: &mut Cursor<'a>) -> Result<Reading<'a>, Stop>
-    ensures { Gives seen result cursor.new (line_at Form.ScalarElement cursor.old) }
+pub fn scalar_element<'a>(cursor: &mut Cursor<'a>, name: &'a [u8]) -> Result<Reading<'a>, Stop>
+    ensures { Gives seen result cursor.new (behind_operator Form.ScalarElement name.now cursor.old) }
 {
-    let result = cursor.local()?;
-    cursor.mark(b"=")?;
-    cursor.word(b"getelementptr")?;
     cursor.skip(Dropped::Words(Flags::Bounds));
     let element = cursor.scalar_type()?;
     cursor.mark(b",")?;
@@ -26,7 +23,7 @@ pub fn scalar_element<'a>(cursor: &mut Cursor<'a>) -> Result<Reading<'a>, Stop>
     let index = cursor.value()?;
     cursor.skip(Dropped::Attachments);
     Ok(Reading::ScalarElement {
-        result,
+        result: name,
         element,
         address,
         width,
@@ -34,12 +31,9 @@ pub fn scalar_element<'a>(cursor: &mut Cursor<'a>) -> Result<Reading<'a>, Stop>
     })
 }
 
-pub fn layout_element<'a>(cursor: &mut Cursor<'a>) -> Result<Reading<'a>, Stop>
-    ensures { Gives seen result cursor.new (line_at Form.LayoutElement cursor.old) }
+pub fn layout_element<'a>(cursor: &mut Cursor<'a>, name: &'a [u8]) -> Result<Reading<'a>, Stop>
+    ensures { Gives seen result cursor.new (behind_operator Form.LayoutElement name.now cursor.old) }
 {
-    let result = cursor.local()?;
-    cursor.mark(b"=")?;
-    cursor.word(b"getelementptr")?;
     cursor.skip(Dropped::Words(Flags::Bounds));
     let layout = cursor.local()?;
     cursor.mark(b",")?;
@@ -51,7 +45,7 @@ pub fn layout_element<'a>(cursor: &mut Cursor<'a>) -> Result<Reading<'a>, Stop>
     let place = cursor.place()?;
     cursor.skip(Dropped::Attachments);
     Ok(Reading::LayoutElement {
-        result,
+        result: name,
         layout,
         address,
         width,
@@ -60,12 +54,9 @@ pub fn layout_element<'a>(cursor: &mut Cursor<'a>) -> Result<Reading<'a>, Stop>
     })
 }
 
-pub fn load<'a>(cursor: &mut Cursor<'a>) -> Result<Reading<'a>, Stop>
-    ensures { Gives seen result cursor.new (line_at Form.Load cursor.old) }
+pub fn load<'a>(cursor: &mut Cursor<'a>, name: &'a [u8]) -> Result<Reading<'a>, Stop>
+    ensures { Gives seen result cursor.new (behind_operator Form.Load name.now cursor.old) }
 {
-    let result = cursor.local()?;
-    cursor.mark(b"=")?;
-    cursor.word(b"load")?;
     let ty = cursor.value_type()?;
     cursor.mark(b",")?;
     cursor.managed()?;
@@ -73,7 +64,7 @@ pub fn load<'a>(cursor: &mut Cursor<'a>) -> Result<Reading<'a>, Stop>
     cursor.skip(Dropped::Alignments);
     cursor.skip(Dropped::Attachments);
     Ok(Reading::Load {
-        result,
+        result: name,
         ty,
         address,
     })

@@ -19,5 +19,5 @@ pub use bundles::LiveEntries;
 pub use forms::{DroppedLine, Form};
 pub use laws::{one_form, one_reading, own_form};
 pub use lines::{whole_dropped, whole_kept};
-pub use opening::form_in;
+pub use opening::opened_form;
 pub use readings::{FunctionType, Reading, StatepointCall};

@@ -1,9 +1,10 @@
 //! Whole lines of a form.
 
-ghost use Rattle.std.specs.Prelude.{◌≡◌, false};
+ghost use Rattle.std.specs.Prelude.{◌≡◌, true, false, is_some};
+ghost use Rattle.std.specs.Option.{option_copied};
 ghost use Rattle.line_parts.specs.Gives.{Gives};
-ghost use Rattle.line_forms.specs.Forms.{is_dropped_form};
-ghost use Rattle.line_forms.specs.Seen.{seen, of_form, line_at, ended, Reads, dropped_says};
+ghost use Rattle.line_forms.specs.Forms.{is_dropped_form, is_operator_form};
+ghost use Rattle.line_forms.specs.Seen.{seen, of_form, line_at, behind_operator, opened_at, ended, Reads, dropped_says};
 
 use crate::accesses::{layout_element, load, scalar_element, store, value_call, void_call};
 use crate::computing::{binary, cast, compare, convert, phi, select};
@@ -19,7 +20,8 @@ use std::alloc::Global;
 
 // What a line of this form says.
 fn kept<'a>(cursor: &mut Cursor<'a>, alloc: Global, form: Form) -> Result<Reading<'a>, Stop>
-    requires { is_dropped_form form ≡ false }
+    requires kept { is_dropped_form form ≡ false }
+    requires whole { is_operator_form form ≡ false }
     ensures { Gives seen result cursor.new (line_at form cursor.old) }
 {
     match form {
@@ -27,15 +29,6 @@ fn kept<'a>(cursor: &mut Cursor<'a>, alloc: Global, form: Form) -> Result<Readin
         Form::Declare => declare(cursor, alloc),
         Form::Define => define(cursor, alloc),
         Form::Close => close(cursor),
-        Form::Binary(op) => binary(cursor, op),
-        Form::Compare => compare(cursor),
-        Form::Convert(op) => convert(cursor, op),
-        Form::Cast(op) => cast(cursor, op),
-        Form::Select => select(cursor),
-        Form::Phi => phi(cursor, alloc),
-        Form::ScalarElement => scalar_element(cursor),
-        Form::LayoutElement => layout_element(cursor),
-        Form::Load => load(cursor),
         Form::Store => store(cursor),
         Form::ValueCall => value_call(cursor, alloc),
         Form::VoidCall => void_call(cursor, alloc),
@@ -50,20 +43,50 @@ fn kept<'a>(cursor: &mut Cursor<'a>, alloc: Global, form: Form) -> Result<Readin
         Form::Statepoint => statepoint(cursor, alloc),
         Form::GcResult => gc_result(cursor),
         Form::GcRelocate => gc_relocate(cursor),
-        Form::Dropped(_) => Err(Stop::NoReading),
+        _ => Err(Stop::NoReading),
     }
 }
 
-/// What a whole line of this form says.
+// What a line of this form says from behind its operator on.
+fn operated<'a>(
+    cursor: &mut Cursor<'a>,
+    alloc: Global,
+    form: Form,
+    name: &'a [u8],
+) -> Result<Reading<'a>, Stop>
+    requires { is_operator_form form ≡ true }
+    ensures { Gives seen result cursor.new (behind_operator form name.now cursor.old) }
+{
+    match form {
+        Form::Binary(op) => binary(cursor, name, op),
+        Form::Compare => compare(cursor, name),
+        Form::Convert(op) => convert(cursor, name, op),
+        Form::Cast(op) => cast(cursor, name, op),
+        Form::Select => select(cursor, name),
+        Form::Phi => phi(cursor, name, alloc),
+        Form::ScalarElement => scalar_element(cursor, name),
+        Form::LayoutElement => layout_element(cursor, name),
+        Form::Load => load(cursor, name),
+        _ => Err(Stop::NoReading),
+    }
+}
+
+/// What a whole line of this form says, from where it was opened on ([`opened_form`](crate::opened_form)): `name` is its result, where
+/// the cursor stands behind its operator.
 pub fn whole_kept<'a>(
     cursor: &mut Cursor<'a>,
     alloc: Global,
     form: Form,
+    name: Option<&'a [u8]>,
 ) -> Result<Reading<'a>, Stop>
-    requires { is_dropped_form form ≡ false }
-    ensures { Reads seen result (ended (line_at form cursor.old)) }
+    requires kept { is_dropped_form form ≡ false }
+    requires opened { is_some (option_copied name) ≡ is_operator_form form }
+    ensures { Reads seen result (ended (opened_at form (option_copied name.entry) cursor.old)) }
 {
-    let reading = kept(cursor, alloc, form)?;
+    let reading = match name {
+        Some(name) => operated(cursor, alloc, form, name)?,
+        None => kept(cursor, alloc, form)?,
+    };
     if cursor.is_at_end() {
         Ok(reading)
     } else {

@@ -1,18 +1,19 @@
 //! Which form a line can have, by the tokens that it begins with.
 
-ghost use Rattle.std.specs.Prelude.{◌≡◌};
+ghost use Rattle.std.specs.Prelude.{◌≡◌, false, is_some, MatchOption, IfSome};
 ghost use Rattle.std.specs.Option.{option_copied};
 ghost use Rattle.sp_text.specs.Tokens.{tok};
 ghost use Rattle.line_tokens.specs.Marks.{begins, is_local, is_word};
 ghost use Rattle.line_parts.specs.Drops.{past};
-ghost use Rattle.line_forms.specs.Forms.{is_calling_word, element_form, single_result_form, named_form, result_form, local_form, target_form, top_form, case_form, branch_form, return_form, instruction_form, word_form, mark_form, form_of, first_global, callee_of, declared_of, behind_result, called_form, plain_form, declared_form, group_form, form_in};
+ghost use Rattle.line_forms.specs.Seen.{line_at, opened_at, Opens};
+ghost use Rattle.line_forms.specs.Forms.{is_calling_word, is_operator, is_operator_form, element_form, single_result_form, named_form, result_form, local_form, target_form, top_form, case_form, branch_form, return_form, instruction_form, word_form, mark_form, form_of, first_global, callee_of, declared_of, behind_result, called_form, plain_form, declared_form, group_form, form_in};
 
 use crate::forms::{DroppedLine, Form};
 use ir_ast::Form as TextForm;
 use line_parts::Cursor;
 use line_tokens::{
     Binary, Cast, Conversion, Dropped, Flags, global, is_family_name, is_mark, is_result_name,
-    is_text, relocate_name, statepoint_name, width_in,
+    is_text, local, relocate_name, statepoint_name, width_in,
 };
 use sp_text::Kind;
 
@@ -23,19 +24,19 @@ fn is_calling_word(bytes: &[u8]) -> bool
 }
 
 fn mark_form(bytes: &[u8]) -> Option<Form>
-    ensures { result ≡ mark_form bytes.now }
+    ensures form { result ≡ mark_form bytes.now }
+    ensures plain { IfSome result (λ form. is_operator_form form ≡ false) }
 {
-    if is_text(bytes, b"}") {
-        Some(Form::Close)
-    } else if is_text(bytes, b"]") {
-        Some(Form::SwitchEnd)
-    } else {
-        None
+    match bytes {
+        b"}" => Some(Form::Close),
+        b"]" => Some(Form::SwitchEnd),
+        _ => None,
     }
 }
 
 fn case_form(bytes: &[u8]) -> Option<Form>
-    ensures { result ≡ case_form (tok Kind.Word bytes.now) }
+    ensures form { result ≡ case_form (tok Kind.Word bytes.now) }
+    ensures plain { IfSome result (λ form. is_operator_form form ≡ false) }
 {
     match width_in(bytes) {
         Some(_) => Some(Form::Case),
@@ -45,7 +46,8 @@ fn case_form(bytes: &[u8]) -> Option<Form>
 
 // A call with a result, by the function that it names.
 fn called_form(name: Option<&[u8]>) -> Form
-    ensures { result ≡ called_form (option_copied name.entry) }
+    ensures form { result ≡ called_form (option_copied name.entry) }
+    ensures plain { is_operator_form result ≡ false }
 {
     let Some(name) = name else {
         return Form::ValueCall;
@@ -63,7 +65,8 @@ fn called_form(name: Option<&[u8]>) -> Form
 
 // A call without a result, by the function that it names.
 fn plain_form(name: Option<&[u8]>) -> Option<Form>
-    ensures { result ≡ plain_form (option_copied name.entry) }
+    ensures form { result ≡ plain_form (option_copied name.entry) }
+    ensures plain { IfSome result (λ form. is_operator_form form ≡ false) }
 {
     match name {
         Some(name) if is_family_name(name) => None,
@@ -72,7 +75,8 @@ fn plain_form(name: Option<&[u8]>) -> Option<Form>
 }
 
 fn declared_form(name: Option<&[u8]>) -> Form
-    ensures { result ≡ declared_form (option_copied name.entry) }
+    ensures form { result ≡ declared_form (option_copied name.entry) }
+    ensures plain { is_operator_form result ≡ false }
 {
     match name {
         Some(name) if is_family_name(name) => Form::Dropped(DroppedLine::Family),
@@ -80,12 +84,29 @@ fn declared_form(name: Option<&[u8]>) -> Form
     }
 }
 
-/// The form of a line of a text in this form: no other form can fit it.
-#[tactic(auto, unfolding(crate::specs::Forms::form_in))]
-pub fn form_in(cursor: &Cursor, text: TextForm) -> Option<Form>
-    ensures { result ≡ form_in text cursor.now }
+/// The form of a line of a text in this form: no other form can fit it. Where that is an operator's, the cursor passes
+/// the operator, and the name of the line's result is given beside the form.
+#[tactic(auto, using(crate::proofs::Operators::operator_in), unfolding(crate::specs::Forms::form_in))]
+pub fn opened_form<'a>(cursor: &mut Cursor<'a>, text: TextForm) -> Option<(Form, Option<&'a [u8]>)>
+    ensures { MatchOption result (form_in text cursor.old ≡ None)
+        (λ found. Opens text cursor.old found.0 (option_copied found.1) cursor.new) }
 {
-    let form = source_form(cursor)?;
+    let (form, name) = source_form(cursor)?;
+    match name {
+        Some(name) => Some((form, Some(name))),
+        None => {
+            let form = text_form(cursor, text, form)?;
+            Some((form, None))
+        }
+    }
+}
+
+// What a line of the source form is in a text of this form.
+#[tactic(auto, unfolding(crate::specs::Forms::form_in))]
+fn text_form(cursor: &Cursor, text: TextForm, form: Form) -> Option<Form>
+    ensures form { form_of cursor.now ≡ Some form → result ≡ form_in text cursor.now }
+    ensures plain { is_operator_form form ≡ false → IfSome result (λ found. is_operator_form found ≡ false) }
+{
     match text {
         TextForm::Source => Some(form),
         TextForm::Rewritten => group_form(cursor, form),
@@ -95,7 +116,8 @@ pub fn form_in(cursor: &Cursor, text: TextForm) -> Option<Form>
 // What a line of the source form is in the rewritten form.
 #[tactic(auto, unfolding(crate::specs::Forms::group_form))]
 fn group_form(cursor: &Cursor, form: Form) -> Option<Form>
-    ensures { result ≡ group_form cursor.now form }
+    ensures form { result ≡ group_form cursor.now form }
+    ensures plain { is_operator_form form ≡ false → IfSome result (λ grouped. is_operator_form grouped ≡ false) }
 {
     match form {
         Form::ValueCall => Some(called_form(result_callee(cursor))),
@@ -170,47 +192,72 @@ fn declared<'a>(cursor: &Cursor<'a>) -> Option<&'a [u8]>
     first_global(&rest)
 }
 
-// The form of a line of the source form.
-#[tactic(auto, unfolding(crate::specs::Forms::form_of))]
-fn source_form(cursor: &Cursor) -> Option<Form>
-    ensures { result ≡ form_of cursor.now }
+// The form of a line of the source form. Where that is an operator's, the cursor passes the operator, and the name of
+// the result is given.
+#[tactic(auto, using(crate::proofs::Operators::line_behind), unfolding(crate::specs::Forms::form_of))]
+fn source_form<'a>(cursor: &mut Cursor<'a>) -> Option<(Form, Option<&'a [u8]>)>
+    ensures form { MatchOption result (form_of cursor.old ≡ None) (λ found. form_of cursor.old ≡ Some found.0) }
+    ensures operator { IfSome result (λ found. is_some (option_copied found.1) ≡ is_operator_form found.0) }
+    ensures stays { IfSome result (λ found. is_operator_form found.0 ≡ false → cursor.new ≡ cursor.old) }
+    ensures opened { IfSome result (λ found. line_at found.0 cursor.old ≡ opened_at found.0 (option_copied found.1) cursor.new) }
 {
     let mut rest = cursor.copied();
-    let token = rest.token()?;
-    match token.kind {
-        Kind::Local => local_form(&rest),
-        Kind::Word => word_form(&rest, token.bytes),
-        Kind::Punct => mark_form(token.bytes),
+    let first = rest.token()?;
+    match first.kind {
+        Kind::Local => {
+            let name = local(&first)?;
+            let second = rest.token()?;
+            if !is_mark(&second, b"=") {
+                return None;
+            }
+            let third = rest.token()?;
+            match third.kind {
+                Kind::Word => {
+                    let form = named_form(&rest, third.bytes)?;
+                    if is_operator_form(form) {
+                        *cursor = rest;
+                        Some((form, Some(name)))
+                    } else {
+                        Some((form, None))
+                    }
+                }
+                _ => None,
+            }
+        }
+        Kind::Word => {
+            let form = word_form(&rest, first.bytes)?;
+            Some((form, None))
+        }
+        Kind::Punct => {
+            let form = mark_form(first.bytes)?;
+            Some((form, None))
+        }
         _ => None,
     }
 }
 
-fn local_form(cursor: &Cursor) -> Option<Form>
-    ensures { result ≡ local_form cursor.now }
+// Whether lines of the form have an operator behind `%x =`.
+fn is_operator_form(form: Form) -> bool
+    ensures { result ≡ is_operator_form form }
 {
-    let mut rest = cursor.copied();
-    let token = rest.token()?;
-    if is_mark(&token, b"=") {
-        result_form(&rest)
-    } else {
-        None
-    }
-}
-
-fn result_form(cursor: &Cursor) -> Option<Form>
-    ensures { result ≡ result_form cursor.now }
-{
-    let mut rest = cursor.copied();
-    let token = rest.token()?;
-    match token.kind {
-        Kind::Word => named_form(&rest, token.bytes),
-        _ => None,
+    match form {
+        Form::Binary(_)
+        | Form::Convert(_)
+        | Form::Cast(_)
+        | Form::Compare
+        | Form::Select
+        | Form::Phi
+        | Form::ScalarElement
+        | Form::LayoutElement
+        | Form::Load => true,
+        _ => false,
     }
 }
 
 #[tactic(auto, unfolding(crate::specs::Forms::named_form))]
 fn named_form(cursor: &Cursor, word: &[u8]) -> Option<Form>
-    ensures { result ≡ named_form word.now cursor.now }
+    ensures form { result ≡ named_form word.now cursor.now }
+    ensures word { IfSome result (λ form. is_operator form word.now ≡ is_operator_form form) }
 {
     if let Some(op) = Binary::of(word) {
         return Some(Form::Binary(op));
@@ -225,7 +272,8 @@ fn named_form(cursor: &Cursor, word: &[u8]) -> Option<Form>
 }
 
 fn single_result_form(cursor: &Cursor, word: &[u8]) -> Option<Form>
-    ensures { result ≡ single_result_form word.now cursor.now }
+    ensures form { result ≡ single_result_form word.now cursor.now }
+    ensures word { IfSome result (λ form. is_operator form word.now ≡ is_operator_form form) }
 {
     if is_text(word, b"getelementptr") {
         Some(element_form(cursor))
@@ -269,7 +317,8 @@ fn element_form(cursor: &Cursor) -> Form
 
 #[tactic(auto, unfolding(crate::specs::Forms::word_form))]
 fn word_form(cursor: &Cursor, word: &[u8]) -> Option<Form>
-    ensures { result ≡ word_form word.now cursor.now }
+    ensures form { result ≡ word_form word.now cursor.now }
+    ensures plain { IfSome result (λ form. is_operator_form form ≡ false) }
 {
     if let Some(form) = instruction_form(cursor, word) {
         return Some(form);
@@ -281,7 +330,8 @@ fn word_form(cursor: &Cursor, word: &[u8]) -> Option<Form>
 }
 
 fn instruction_form(cursor: &Cursor, word: &[u8]) -> Option<Form>
-    ensures { result ≡ instruction_form word.now cursor.now }
+    ensures form { result ≡ instruction_form word.now cursor.now }
+    ensures plain { IfSome result (λ form. is_operator_form form ≡ false) }
 {
     if is_text(word, b"store") {
         Some(Form::Store)
@@ -301,7 +351,8 @@ fn instruction_form(cursor: &Cursor, word: &[u8]) -> Option<Form>
 }
 
 fn branch_form(cursor: &Cursor) -> Form
-    ensures { result ≡ branch_form cursor.now }
+    ensures form { result ≡ branch_form cursor.now }
+    ensures plain { is_operator_form result ≡ false }
 {
     if cursor.begins_word(b"label") {
         Form::Jump
@@ -311,7 +362,8 @@ fn branch_form(cursor: &Cursor) -> Form
 }
 
 fn return_form(cursor: &Cursor) -> Form
-    ensures { result ≡ return_form cursor.now }
+    ensures form { result ≡ return_form cursor.now }
+    ensures plain { is_operator_form result ≡ false }
 {
     if cursor.begins_word(b"void") {
         Form::ReturnVoid
@@ -321,7 +373,8 @@ fn return_form(cursor: &Cursor) -> Form
 }
 
 fn top_form(cursor: &Cursor, word: &[u8]) -> Option<Form>
-    ensures { result ≡ top_form word.now cursor.now }
+    ensures form { result ≡ top_form word.now cursor.now }
+    ensures plain { IfSome result (λ form. is_operator_form form ≡ false) }
 {
     if is_text(word, b"declare") {
         Some(Form::Declare)
@@ -339,7 +392,8 @@ fn top_form(cursor: &Cursor, word: &[u8]) -> Option<Form>
 }
 
 fn target_form(cursor: &Cursor) -> Form
-    ensures { result ≡ target_form cursor.now }
+    ensures form { result ≡ target_form cursor.now }
+    ensures plain { is_operator_form result ≡ false }
 {
     if cursor.begins_word(b"datalayout") {
         Form::Dropped(DroppedLine::DataLayout)

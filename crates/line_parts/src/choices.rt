@@ -58,6 +58,9 @@ impl<'a> Cursor<'a> {
     fn begins_place(&self) -> bool
         ensures { result ≡ begins_place self.now }
     {
+        if !self.begins_mark(b",") {
+            return false;
+        }
         let mut rest = self.copied();
         let Some(comma) = rest.token() else {
             return false;

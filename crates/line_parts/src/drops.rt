@@ -1,6 +1,6 @@
 //! Words that are read and dropped.
 
-ghost use Rattle.std.specs.Prelude.{◌≡◌, codes};
+ghost use Rattle.std.specs.Prelude.{◌≡◌, codes, is_some};
 ghost use Rattle.sp_text.specs.Tokens.{tok};
 ghost use Rattle.line_tokens.specs.Marks.{is_number, is_quoted, begins};
 ghost use Rattle.line_parts.specs.Drops.{reserved, is_attribute_word, past_word, past_group, past_quoted_value, past_bracketing, after_bracket, past, past_attachment, past_head_attachment, past_alignment, past_one_of, past_group_beside, past_dropped, past_all, is_bang_name, is_bang_number, is_one_of, flag_words};
@@ -83,6 +83,9 @@ impl<'a> Cursor<'a> {
     fn past_group(&self) -> Option<Cursor<'a>>
         ensures { result ≡ past_group self.now }
     {
+        if !self.begins_group() {
+            return None;
+        }
         let mut rest = self.copied();
         match rest.token() {
             None => None,
@@ -97,6 +100,21 @@ impl<'a> Cursor<'a> {
                 Kind::Quoted => Some(rest.past_quoted_value()),
                 Kind::Hash => Some(rest),
                 _ => None,
+            },
+        }
+    }
+
+    // Whether an attribute group stands there, by its first token.
+    fn begins_group(&self) -> bool
+        ensures { result ≡ is_some (past_group self.now) }
+    {
+        match self.peek() {
+            None => false,
+            Some(token) => match token.kind {
+                Kind::Word => is_attribute_word(token.bytes),
+                Kind::Quoted => true,
+                Kind::Hash => true,
+                _ => false,
             },
         }
     }
@@ -217,6 +235,9 @@ impl<'a> Cursor<'a> {
     fn past_attachment(&self) -> Option<Cursor<'a>>
         ensures { result ≡ past_attachment self.now }
     {
+        if !self.begins_mark(b",") {
+            return None;
+        }
         let mut rest = self.copied();
         let first = rest.token()?;
         let second = rest.token()?;
@@ -231,6 +252,9 @@ impl<'a> Cursor<'a> {
     fn past_alignment(&self) -> Option<Cursor<'a>>
         ensures { result ≡ past_alignment self.now }
     {
+        if !self.begins_mark(b",") {
+            return None;
+        }
         let mut rest = self.copied();
         let first = rest.token()?;
         let second = rest.token()?;
@@ -245,15 +269,15 @@ impl<'a> Cursor<'a> {
     fn past_flag(&self, flags: Flags) -> Option<Cursor<'a>>
         ensures { result ≡ past_one_of (flag_words flags) self.now }
     {
-        let mut rest = self.copied();
-        let token = rest.token()?;
+        let token = self.peek()?;
         match token.kind {
             Kind::Word => {
-                if is_flag_word(flags, token.bytes) {
-                    Some(rest)
-                } else {
-                    None
+                if !is_flag_word(flags, token.bytes) {
+                    return None;
                 }
+                let mut rest = self.copied();
+                let _ = rest.token();
+                Some(rest)
             }
             _ => None,
         }

@@ -186,6 +186,9 @@ impl<'a> Cursor<'a> {
     fn begins_entry(&self) -> bool
         ensures { result ≡ begins_entry self.now }
     {
+        if !self.begins_mark(b",") {
+            return false;
+        }
         let mut rest = self.copied();
         let Some(comma) = rest.token() else {
             return false;

@@ -200,13 +200,10 @@ fn value_in<'a>(token: &Token<'a>) -> Option<Value<'a>>
 fn word_value<'a>(bytes: &[u8]) -> Option<Value<'a>>
     ensures { option_map seen_value result ≡ word_value bytes.now }
 {
-    if is_text(bytes, b"true") {
-        Some(Value::Truth(true))
-    } else if is_text(bytes, b"false") {
-        Some(Value::Truth(false))
-    } else if is_text(bytes, b"null") {
-        Some(Value::Null)
-    } else {
-        None
+    match bytes {
+        b"true" => Some(Value::Truth(true)),
+        b"false" => Some(Value::Truth(false)),
+        b"null" => Some(Value::Null),
+        _ => None,
     }
 }

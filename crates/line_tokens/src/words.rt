@@ -1,6 +1,7 @@
 //! Words of choice: operators, conversions, casts, predicates; and what may be dropped.
 
-ghost use Rattle.std.specs.Prelude.{◌≡◌, codes};
+ghost use Rattle.std.specs.Prelude.{◌≡◌, codes, IsTrue, IfSome};
+ghost use Rattle.std.specs.Str.{bytes_eq};
 ghost use Rattle.line_tokens.specs.Words.{binary_word, binary_flags, conversion_word, conversion_flags, cast_word, all_binaries, all_conversions, all_casts, pred_word, all_preds, spelled_by};
 
 use crate::tokens::is_text;
@@ -116,36 +117,24 @@ impl Binary {
 
     /// The one that a word names.
     pub fn of(bytes: &[u8]) -> Option<Binary>
-        ensures { result ≡ spelled_by binary_word all_binaries bytes.now }
+        ensures first { result ≡ spelled_by binary_word all_binaries bytes.now }
+        ensures word { IfSome result (λ op. IsTrue (bytes_eq bytes.now (binary_word op))) }
     {
-        if is_text(bytes, b"add") {
-            Some(Binary::Add)
-        } else if is_text(bytes, b"sub") {
-            Some(Binary::Sub)
-        } else if is_text(bytes, b"mul") {
-            Some(Binary::Mul)
-        } else if is_text(bytes, b"udiv") {
-            Some(Binary::Udiv)
-        } else if is_text(bytes, b"sdiv") {
-            Some(Binary::Sdiv)
-        } else if is_text(bytes, b"urem") {
-            Some(Binary::Urem)
-        } else if is_text(bytes, b"srem") {
-            Some(Binary::Srem)
-        } else if is_text(bytes, b"and") {
-            Some(Binary::And)
-        } else if is_text(bytes, b"or") {
-            Some(Binary::Or)
-        } else if is_text(bytes, b"xor") {
-            Some(Binary::Xor)
-        } else if is_text(bytes, b"shl") {
-            Some(Binary::Shl)
-        } else if is_text(bytes, b"lshr") {
-            Some(Binary::Lshr)
-        } else if is_text(bytes, b"ashr") {
-            Some(Binary::Ashr)
-        } else {
-            None
+        match bytes {
+            b"add" => Some(Binary::Add),
+            b"sub" => Some(Binary::Sub),
+            b"mul" => Some(Binary::Mul),
+            b"udiv" => Some(Binary::Udiv),
+            b"sdiv" => Some(Binary::Sdiv),
+            b"urem" => Some(Binary::Urem),
+            b"srem" => Some(Binary::Srem),
+            b"and" => Some(Binary::And),
+            b"or" => Some(Binary::Or),
+            b"xor" => Some(Binary::Xor),
+            b"shl" => Some(Binary::Shl),
+            b"lshr" => Some(Binary::Lshr),
+            b"ashr" => Some(Binary::Ashr),
+            _ => None,
         }
     }
 }
@@ -175,16 +164,14 @@ impl Conversion {
 
     /// The one that a word names.
     pub fn of(bytes: &[u8]) -> Option<Conversion>
-        ensures { result ≡ spelled_by conversion_word all_conversions bytes.now }
+        ensures first { result ≡ spelled_by conversion_word all_conversions bytes.now }
+        ensures word { IfSome result (λ op. IsTrue (bytes_eq bytes.now (conversion_word op))) }
     {
-        if is_text(bytes, b"trunc") {
-            Some(Conversion::Trunc)
-        } else if is_text(bytes, b"zext") {
-            Some(Conversion::Zext)
-        } else if is_text(bytes, b"sext") {
-            Some(Conversion::Sext)
-        } else {
-            None
+        match bytes {
+            b"trunc" => Some(Conversion::Trunc),
+            b"zext" => Some(Conversion::Zext),
+            b"sext" => Some(Conversion::Sext),
+            _ => None,
         }
     }
 }
@@ -204,7 +191,8 @@ impl Cast {
 
     /// The one that a word names.
     pub fn of(bytes: &[u8]) -> Option<Cast>
-        ensures { result ≡ spelled_by cast_word all_casts bytes.now }
+        ensures first { result ≡ spelled_by cast_word all_casts bytes.now }
+        ensures word { IfSome result (λ op. IsTrue (bytes_eq bytes.now (cast_word op))) }
     {
         if is_text(bytes, b"ptrtoint") {
             Some(Cast::PtrToInt)
@@ -224,27 +212,17 @@ impl Cast {
 pub fn pred_in(bytes: &[u8]) -> Option<Pred>
     ensures { result ≡ spelled_by pred_word all_preds bytes.now }
 {
-    if is_text(bytes, b"eq") {
-        Some(Pred::Eq)
-    } else if is_text(bytes, b"ne") {
-        Some(Pred::Ne)
-    } else if is_text(bytes, b"ugt") {
-        Some(Pred::Ugt)
-    } else if is_text(bytes, b"uge") {
-        Some(Pred::Uge)
-    } else if is_text(bytes, b"ult") {
-        Some(Pred::Ult)
-    } else if is_text(bytes, b"ule") {
-        Some(Pred::Ule)
-    } else if is_text(bytes, b"sgt") {
-        Some(Pred::Sgt)
-    } else if is_text(bytes, b"sge") {
-        Some(Pred::Sge)
-    } else if is_text(bytes, b"slt") {
-        Some(Pred::Slt)
-    } else if is_text(bytes, b"sle") {
-        Some(Pred::Sle)
-    } else {
-        None
+    match bytes {
+        b"eq" => Some(Pred::Eq),
+        b"ne" => Some(Pred::Ne),
+        b"ugt" => Some(Pred::Ugt),
+        b"uge" => Some(Pred::Uge),
+        b"ult" => Some(Pred::Ult),
+        b"ule" => Some(Pred::Ule),
+        b"sgt" => Some(Pred::Sgt),
+        b"sge" => Some(Pred::Sge),
+        b"slt" => Some(Pred::Slt),
+        b"sle" => Some(Pred::Sle),
+        _ => None,
     }
 }

@@ -1,5 +1,5 @@
 -- Sets of pointers, by their numbers.
-use Rattle.std.specs.Prelude.{◌≡◌, ℕ, ◌==◌, Bool, true, List}
+use Rattle.std.specs.Prelude.{◌≡◌, ℕ, ◌<◌, ◌≤◌, ◌==◌, Bool, true, false, if◌then◌else◌, List, slice_index_or}
 use Rattle.std.specs.List.{list_any}
 use Rattle.std.specs.Ordering.{nat_cmp}
 use Rattle.std.specs.BTreeSet.{BTreeSet, contains}
@@ -22,3 +22,17 @@ pub record Changed (marks : List Bool) (old new : BTreeSet ℕ) (change : ℕ �
 pub record HasMembers (marks : List Bool) (values : List ValueId) (set : BTreeSet ℕ) : Type 0 where
   pub each : (v : ℕ) → has_mark marks v ≡ true → is_in set v ≡ list_any (λ value. value.0 == v) values
   pub marked : AreMarked marks set
+
+-- one number is in now, and the others as before
+abbrev pub Puts : ℕ → BTreeSet ℕ → BTreeSet ℕ → Type 0
+Puts number old new = (v : ℕ) → is_in new v ≡ (if number == v then true else is_in old v)
+
+-- one number isn't in now, and the others are as before
+abbrev pub Takes : ℕ → BTreeSet ℕ → BTreeSet ℕ → Type 0
+Takes number old new = (v : ℕ) → is_in new v ≡ (if number == v then false else is_in old v)
+
+-- what bears the stamp is in, and no value bears a later one
+pub record AreStamped (set : BTreeSet ℕ) (stamps : List ℕ) (stamp : ℕ) : Type 0 where
+  pub above : 0 < stamp
+  pub past : (v : ℕ) → slice_index_or stamps v 0 ≤ stamp
+  pub inside : (v : ℕ) → slice_index_or stamps v 0 ≡ stamp → is_in set v ≡ true

@@ -5,6 +5,7 @@ mod ends;
 mod lists;
 mod numbers;
 mod phis;
+mod pointer_sets;
 mod starts;
 mod uses;
 mod values;

@@ -20,6 +20,7 @@ ghost use Rattle.live_sets.specs.Lists.{items_of, is_held, AddsList, AddsBlock};
 
 use crate::ends::ends;
 use crate::numbers::{after, first_numbers};
+use crate::pointer_sets::PointerSet;
 use crate::starts::starts;
 use crate::uses::{go_back, put, put_bundle};
 use crate::values::{marked, pointer_marks};
@@ -56,6 +57,7 @@ pub fn live(alloc: Global, func: &Func, cfg: &Cfg, bases: &BaseTable) -> Result<
         starts.as_slice(),
         table,
     )?;
+    let mut set = PointerSet::of(alloc, marks.len())?;
     let mut lists = Vec::new(alloc);
     while number > 0 {
         number -= 1;
@@ -67,6 +69,7 @@ pub fn live(alloc: Global, func: &Func, cfg: &Cfg, bases: &BaseTable) -> Result<
             marks.as_slice(),
             table,
             ends[number].as_slice(),
+            &mut set,
             &mut lists,
         )?;
     }
@@ -83,6 +86,7 @@ fn add_block(
     marks: &[bool],
     bases: &[Operand],
     ends: &[ValueId],
+    set: &mut PointerSet,
     lists: &mut Vec<Vec<ValueId>>,
 ) -> Result<(), Memory>
     requires number { number < length func.now.content.blocks }
@@ -95,7 +99,7 @@ fn add_block(
     if !has_call(insts) {
         return Ok(());
     }
-    let mut set = set_of(alloc, marks, ends)?;
+    fill(alloc, marks, ends, set)?;
     let mut next = after(first, insts);
     let mut place = insts.len();
     while place > 0 {
@@ -103,8 +107,8 @@ fn add_block(
         let inst = &insts[place];
         next = before(inst, next);
         let to = result_of(inst, next);
-        add_list(alloc, marks, bases, inst, to, &mut set, lists)?;
-        go_back(marks, bases, inst, to, &mut set)?;
+        add_list(alloc, marks, bases, inst, to, set, lists)?;
+        go_back(marks, bases, inst, to, set)?;
     }
     Ok(())
 }
@@ -164,15 +168,20 @@ fn is_leaf(callee: Callee) -> bool
     }
 }
 
-// The set of these pointers.
-fn set_of(alloc: Global, marks: &[bool], values: &[ValueId]) -> Result<BTreeSet<u32>, Memory>
-    ensures { IfOk result (λ set. HasMembers marks.now values.now set) }
+// Makes it the set of these pointers.
+fn fill(
+    alloc: Global,
+    marks: &[bool],
+    values: &[ValueId],
+    set: &mut PointerSet,
+) -> Result<(), Memory>
+    ensures { IfOk result (λ _. HasMembers marks.now values.now set.new) }
 {
-    let mut set = BTreeSet::new(alloc);
+    set.empty(alloc)?;
     for value in values {
-        put(marks, Some(*value), &mut set)?;
+        put(marks, Some(*value), set)?;
     }
-    Ok(set)
+    Ok(())
 }
 
 // The number of the first result from an instruction on, given the number behind it.
@@ -204,14 +213,14 @@ fn add_list(
     bases: &[Operand],
     inst: &Inst,
     to: Option<ValueId>,
-    set: &mut BTreeSet<u32>,
+    set: &mut PointerSet,
     lists: &mut Vec<Vec<ValueId>>,
 ) -> Result<(), Memory>
     ensures { IfOk result (λ _. AddsList marks.now bases.now inst.now to set.old set.new lists.old.items lists.new.items) }
 {
     if is_call(inst.op()) {
         put_bundle(marks, bases, inst.bundle(), set)?;
-        lists.push(list_of(alloc, set, to)?)?;
+        lists.push(list_of(alloc, set.set(), to)?)?;
     }
     Ok(())
 }

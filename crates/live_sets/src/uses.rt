@@ -5,9 +5,9 @@ ghost use Rattle.live_sets.specs.Values.{has_mark};
 ghost use Rattle.live_sets.specs.Sets.{Changed};
 ghost use Rattle.live_sets.specs.Uses.{value_named, base_named, uses_of, names, uses, line_uses};
 
+use crate::pointer_sets::PointerSet;
 use ir_ast::{Inst, Op, Operand, Ty};
 use sp_ids::{Memory, ValueId};
-use std::collections::BTreeSet;
 
 /// The values that an operand uses: a value, and where it is a pointer that isn't its own base, this base.
 #[derive(Clone, Copy)]
@@ -57,13 +57,13 @@ fn base_in(marks: &[bool], bases: &[Operand], value: Option<ValueId>) -> Option<
 pub(crate) fn put(
     marks: &[bool],
     value: Option<ValueId>,
-    set: &mut BTreeSet<u32>,
+    set: &mut PointerSet,
 ) -> Result<(), Memory>
     ensures { IfOk result (λ _. Changed marks.now set.old set.new (λ v old. if names value v then true else old)) }
 {
     if let Some(value) = value {
         if has_mark(marks, value) {
-            set.insert(value.0)?;
+            set.put(value)?;
         }
     }
     Ok(())
@@ -76,11 +76,13 @@ fn has_mark(marks: &[bool], value: ValueId) -> bool
 }
 
 // Takes a value out of a set of pointers.
-fn take(marks: &[bool], value: Option<ValueId>, set: &mut BTreeSet<u32>)
+fn take(marks: &[bool], value: Option<ValueId>, set: &mut PointerSet)
     ensures { Changed marks.now set.old set.new (λ v old. if names value v then false else old) }
 {
     if let Some(value) = value {
-        set.remove(&value.0);
+        if has_mark(marks, value) {
+            set.take(value);
+        }
     }
 }
 
@@ -89,7 +91,7 @@ pub(crate) fn put_operand(
     marks: &[bool],
     bases: &[Operand],
     operand: Operand,
-    set: &mut BTreeSet<u32>,
+    set: &mut PointerSet,
 ) -> Result<(), Memory>
     ensures { IfOk result (λ _. Changed marks.now set.old set.new (λ v old. uses marks.now bases.now v operand || old)) }
 {
@@ -104,7 +106,7 @@ pub(crate) fn put_operands(
     marks: &[bool],
     bases: &[Operand],
     operands: &[Operand],
-    set: &mut BTreeSet<u32>,
+    set: &mut PointerSet,
 ) -> Result<(), Memory>
     ensures { IfOk result (λ _. Changed marks.now set.old set.new (λ v old. list_any (uses marks.now bases.now v) operands.now || old)) }
 {
@@ -119,7 +121,7 @@ pub(crate) fn put_bundle(
     marks: &[bool],
     bases: &[Operand],
     bundle: &[(Ty, Operand)],
-    set: &mut BTreeSet<u32>,
+    set: &mut PointerSet,
 ) -> Result<(), Memory>
     ensures { IfOk result (λ _. Changed marks.now set.old set.new (λ v old. list_any (λ entry. uses marks.now bases.now v entry.1) bundle.now || old)) }
 {
@@ -134,7 +136,7 @@ fn put_own(
     marks: &[bool],
     bases: &[Operand],
     inst: &Inst,
-    set: &mut BTreeSet<u32>,
+    set: &mut PointerSet,
 ) -> Result<(), Memory>
     ensures { IfOk result (λ _. Changed marks.now set.old set.new (λ v old. (not (is_phi inst.now.op) && list_any (uses marks.now bases.now v) inst.now.operands) || old)) }
 {
@@ -151,7 +153,7 @@ pub(crate) fn go_back(
     bases: &[Operand],
     inst: &Inst,
     to: Option<ValueId>,
-    set: &mut BTreeSet<u32>,
+    set: &mut PointerSet,
 ) -> Result<(), Memory>
     ensures { IfOk result (λ _. Changed marks.now set.old set.new (λ v old. line_uses marks.now bases.now v inst.now || (not (names to v) && old))) }
 {

@@ -1,4 +1,5 @@
 pub mod LineLemmas
 pub mod CodeLemmas
 pub mod FrameLemmas
-pub mod DecodeLemmas
+pub mod SlotLemmas
+pub mod LandingLemmas

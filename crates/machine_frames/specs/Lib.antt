@@ -1,3 +1,4 @@
+pub mod Landings
 pub mod Tables
 pub mod Frames
 pub mod Tasks

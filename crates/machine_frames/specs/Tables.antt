@@ -1,29 +1,39 @@
--- What is made once of each function: how many instructions stand before each block, the first register of each, and its
--- instructions decoded.
+-- What is made once of each function: how many instructions stand before each block, the first register of each, and the blocks
+-- as jumps come to them.
 use Rattle.std.specs.Prelude.{◌≡◌, ℕ, ◌+◌, List, [], ◌∷◌, length, map}
 use Rattle.ir_ast.specs.Blocks.{BasicBlock}
 use Rattle.ir_ast.specs.Funcs.{Function}
 use Rattle.ir_ast.specs.Modules.{ModuleContent}
-use Rattle.object_meaning.specs.Lines.{registers_of}
+use Rattle.object_meaning.specs.Lines.{after_all, first_register, insts_of, registers_of}
 use Rattle.frame_forms.specs.ModuleLayouts.{FunctionLayout, layout_of}
-use Rattle.machine_lines.specs.declared.decoded.Decoded.{Decoded}
-use Rattle.machine_lines.specs.Decoding.{decoded_of}
+use Rattle.machine_frames.specs.Landings.{Site}
 
 pub record Tabled : Type 0 where
   pub befores : List ℕ
   pub firsts : List ℕ
-  pub decoded : List (List Decoded)
+  pub sites : List Site
 
 abbrev pub befores_from : ℕ → List BasicBlock → List ℕ
 befores_from count [] = []
 befores_from count (block ∷ blocks) = count ∷ befores_from (count + length block.insts) blocks
+
+abbrev pub sites_from : ℕ → List BasicBlock → List Site
+sites_from next [] = []
+sites_from next (block ∷ blocks) = record { first = next; insts = block.insts } ∷ sites_from (after_all next block.insts) blocks
+
+abbrev pub sites_of : Function → List Site
+sites_of func = sites_from (length func.args) func.blocks
+
+-- a block of a module
+abbrev pub site_of : ModuleContent → ℕ → ℕ → Site
+site_of content func block = record { first = first_register content func block; insts = insts_of content func block }
 
 -- the table of a function
 abbrev pub table_of : Function → Tabled
 table_of func = record {
   befores = befores_from 0 func.blocks;
   firsts = registers_of func;
-  decoded = map (λ block. map decoded_of block.insts) func.blocks;
+  sites = sites_of func;
 }
 
 -- the layout and the tables of a module

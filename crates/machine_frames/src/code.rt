@@ -1,38 +1,37 @@
 //! A rewritten module as it is run: its instructions, the registers of their results, and their addresses.
 
-ghost use Rattle.std.specs.Prelude.{◌≡◌, [], ◌≤◌, IfOk, length, map, MatchOption, None, Some, slice_get, slice_index, unwrap_or, ◌-◌};
+ghost use Rattle.std.specs.Prelude.{◌≡◌, [], ◌≤◌, IfOk, length, map, MatchOption, None, Some, slice_get, slice_index, ◌-◌};
 ghost use Rattle.std.specs.Option.{option_map, option_map_or};
 ghost use Rattle.ir_ast.specs.Funcs.{content_of};
 ghost use Rattle.object_meaning.specs.Lines.{insts_in, insts_of, first_register, register_count};
 ghost use Rattle.machine_meaning.specs.Code.{code_address, place_before, words_in};
-ghost use Rattle.machine_lines.specs.Decoding.{decoded_of};
-ghost use Rattle.machine_frames.specs.Tables.{table_of};
+ghost use Rattle.machine_frames.specs.Tables.{site_of, table_of};
 
+use crate::landings::{Landing, landings_of};
 use crate::numbering::{befores_of, registers_of};
 use frame_slots::Layouts;
 use ir_ast::{Func, Inst, Module};
-use machine_lines::{Decoded, Lines, decoded_blocks};
+use machine_lines::Lines;
 use sp_ids::limits::FUNCTIONS;
 use sp_ids::{FuncId, Memory};
 use std::alloc::Global;
 use std::marker::Model;
 
 /// How many instructions stand before each block of a function, and the register of the first result of each; last the
-/// number of its registers. The instructions of each block, decoded.
+/// number of its registers. The blocks as jumps come to them.
 #[derive(Drop)]
-pub(crate) struct Table {
+pub(crate) struct Table<'m> {
     befores: Vec<usize>,
     firsts: Vec<usize>,
-    decoded: Vec<Vec<Decoded>>,
+    landings: Vec<Landing<'m>>,
 }
 
-impl Model for Table {
-    ghost use Rattle.std.specs.Prelude.{map};
+impl<'m> Model for Table<'m> {
     ghost use Rattle.machine_frames.specs.Tables.{Tabled};
 
     ghost Value = { Tabled };
 
-    ghost view = { λ table. record { befores = table.befores.items; firsts = table.firsts.items; decoded = map (λ block. block.items) table.decoded.items } };
+    ghost view = { λ table. record { befores = table.befores.items; firsts = table.firsts.items; sites = table.landings.items } };
 }
 
 /// A module with what is counted once of its functions. Contracts see the module's content.
@@ -40,7 +39,7 @@ impl Model for Table {
 pub struct Code<'m> {
     module: &'m Module,
     layouts: Layouts,
-    tables: Vec<Table>,
+    tables: Vec<Table<'m>>,
 }
 
 impl<'m> Model for Code<'m> {
@@ -82,8 +81,21 @@ impl<'m> Code<'m> {
     pub fn lines(&self, func: u32, block: u32) -> Lines<'_>
         ensures { result.insts.now ≡ insts_of self.now func block }
     {
-        let insts = self.insts(func, block);
-        Lines::of(insts, self.decoded(func, block))
+        match self.landing(func, block) {
+            None => Lines::none(),
+            Some(landing) => landing.lines(),
+        }
+    }
+
+    /// A block of a function as a jump comes to it; none, where there is no such block.
+    #[inline(always)]
+    pub(crate) fn landing(&self, func: u32, block: u32) -> Option<&Landing<'m>>
+        ensures { MatchOption result (insts_of self.now func block ≡ []) (λ landing. landing.now ≡ site_of self.now func block) }
+    {
+        match table_in(self.tables.as_slice(), func as usize) {
+            None => None,
+            Some(table) => table.landing(block),
+        }
     }
 
     /// The instructions of a block; none, where there is no such block.
@@ -93,16 +105,6 @@ impl<'m> Code<'m> {
         match func_at(self.module, func as usize) {
             None => &[],
             Some(func) => insts_in(func, block),
-        }
-    }
-
-    // The same, decoded.
-    fn decoded(&self, func: u32, block: u32) -> &[Decoded]
-        ensures { result.now ≡ map decoded_of (insts_of self.now func block) }
-    {
-        match table_in(self.tables.as_slice(), func as usize) {
-            None => &[],
-            Some(table) => table.block(block),
         }
     }
 
@@ -165,20 +167,18 @@ impl<'m> Code<'m> {
     }
 }
 
-impl Table {
+impl<'m> Table<'m> {
     fn first(&self, block: u32) -> usize
         ensures { result ≡ slice_index self.now.firsts block }
     {
         self.firsts.get(block as usize).copied().unwrap_or(0)
     }
 
-    fn block(&self, block: u32) -> &[Decoded]
-        ensures { result.now ≡ unwrap_or (slice_get self.now.decoded block) [] }
+    #[inline(always)]
+    fn landing(&self, block: u32) -> Option<&Landing<'m>>
+        ensures { MatchOption result (slice_get self.now.sites block ≡ None) (λ landing. slice_get self.now.sites block ≡ Some landing.now) }
     {
-        match self.decoded.get(block as usize) {
-            None => &[],
-            Some(decoded) => decoded.as_slice(),
-        }
+        self.landings.get(block as usize)
     }
 
     fn last(&self) -> usize
@@ -194,7 +194,7 @@ impl Table {
     }
 }
 
-fn tables_of(alloc: Global, funcs: &[Func]) -> Result<Vec<Table>, Memory>
+fn tables_of(alloc: Global, funcs: &[Func]) -> Result<Vec<Table<'_>>, Memory>
     ensures { IfOk result (λ tables. tables.items ≡ map (λ func. table_of func.content) funcs.now) }
 {
     let mut tables = Vec::new(alloc);
@@ -204,16 +204,16 @@ fn tables_of(alloc: Global, funcs: &[Func]) -> Result<Vec<Table>, Memory>
     Ok(tables)
 }
 
-fn table_of(alloc: Global, func: &Func) -> Result<Table, Memory>
+fn table_of(alloc: Global, func: &Func) -> Result<Table<'_>, Memory>
     ensures { IfOk result (λ table. table ≡ table_of func.now.content) }
 {
     let befores = befores_of(alloc, func.blocks())?;
     let firsts = registers_of(alloc, func)?;
-    let decoded = decoded_blocks(alloc, func.blocks())?;
+    let landings = landings_of(alloc, func)?;
     Ok(Table {
         befores,
         firsts,
-        decoded,
+        landings,
     })
 }
 
@@ -232,7 +232,8 @@ fn func_in(funcs: &[Func], place: usize) -> Option<&Func>
     funcs.get(place)
 }
 
-fn table_in(tables: &[Table], place: usize) -> Option<&Table>
+#[inline(always)]
+fn table_in<'t, 'm>(tables: &'t [Table<'m>], place: usize) -> Option<&'t Table<'m>>
     ensures { MatchOption result (slice_get tables.now place ≡ None) (λ table. slice_get tables.now place ≡ Some table.now) }
 {
     tables.get(place)

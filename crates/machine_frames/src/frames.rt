@@ -5,7 +5,7 @@ ghost use Rattle.std.specs.Option.{option_map_or};
 ghost use Rattle.std.specs.List.{position};
 ghost use Rattle.ir_ast.specs.Objects.{number};
 ghost use Rattle.object_meaning.specs.Lines.{following, after_all};
-ghost use Rattle.object_meaning.specs.Registers.{put, put_all, value};
+ghost use Rattle.object_meaning.specs.Registers.{nothing, put, put_all, value};
 ghost use Rattle.object_meaning.specs.Jumps.{arrived, incoming, phi_write};
 ghost use Rattle.map_bytes.specs.Maps.{StackMap};
 ghost use Rattle.move_plan.specs.declared.plan_lines.PlanLine.{PlanLine};
@@ -13,11 +13,14 @@ ghost use Rattle.machine_meaning.specs.Code.{machinery_of};
 ghost use Rattle.machine_meaning.specs.Words.{worded_operand};
 ghost use Rattle.machine_meaning.specs.Machines.{behind, gone_from, gone_behind, regrouped_by, slot_put, return_address, address_behind};
 ghost use Rattle.machine_frames.specs.Frames.{lines_in, frame_of, entered_in, write_of, is_statepoint};
+ghost use Rattle.machine_frames.specs.Landings.{phis_of};
 ghost use Rattle.machine_lines.specs.Decoding.{decoded_of};
 ghost use Rattle.machine_lines.specs.Lines.{line_of, lines_left};
 
 use crate::code::Code;
-use crate::numbering::{following, member_count, phi_count, register_of};
+use crate::copies::copy_all;
+use crate::landings::Landing;
+use crate::numbering::{following, member_count, register_of};
 use crate::slots::{is_statepoint, member_word};
 use frame_walk::Stack;
 use ir_ast::{Inst, Op, Operand};
@@ -63,6 +66,7 @@ impl<'m> Frame<'m> {
     }
 
     /// The same of a call whose arguments are what these operands are in the frame that calls.
+    #[inline(always)]
     pub(crate) fn called(
         room: Vec<u64>,
         code: &'m Code<'_>,
@@ -72,8 +76,7 @@ impl<'m> Frame<'m> {
     ) -> Result<Frame<'m>, Memory>
         ensures { IfOk result (λ frame. frame_of frame ≡ entered_in code.now func (map (value (map number from.now)) (map worded_operand operands.now))) }
     {
-        let arguments = words_of(room, from, operands)?;
-        let registers = filled(arguments, code.registers(func))?;
+        let registers = filled(room, code.registers(func), from, operands)?;
         Ok(Frame {
             func,
             block: 0,
@@ -119,6 +122,7 @@ impl<'m> Frame<'m> {
     }
 
     /// The same of a frame that stands at this call.
+    #[inline(always)]
     pub(crate) fn go_behind(
         &mut self,
         stack: &Stack,
@@ -137,6 +141,7 @@ impl<'m> Frame<'m> {
     }
 
     // Goes on behind the group of a statepoint, of which the first result goes to the register `first`.
+    #[inline(always)]
     fn regroup(
         &mut self,
         stack: &Stack,
@@ -155,6 +160,7 @@ impl<'m> Frame<'m> {
     }
 
     /// Goes to another block, whose phis take effect together. `moves` is room for them.
+    #[inline(always)]
     pub fn arrive(
         &mut self,
         code: &'m Code<'_>,
@@ -163,16 +169,20 @@ impl<'m> Frame<'m> {
     ) -> Result<(), Memory>
         ensures { OnOk result (frame_of self.new ≡ arrived (frame_of self.old) block (lines_in code.now self.old.func block)) }
     {
-        let lines = code.lines(self.func, block);
-        let first = code.first(self.func, block);
-        let count = phi_count(lines.insts);
-        let phis = lines.front_of(count);
-        let next = gather(moves, self.registers.as_slice(), self.block, first, phis)?;
-        do_moves(self.registers.as_mut_slice(), moves.as_slice());
-        self.block = block;
-        self.rest = lines.behind(count);
-        self.next = next;
-        Ok(())
+        match code.landing(self.func, block) {
+            None => {
+                self.block = block;
+                self.rest = Lines::none();
+                Ok(())
+            }
+            Some(landing) => {
+                carry(self.registers.as_mut_slice(), moves, landing, self.block)?;
+                self.block = block;
+                self.rest = landing.rest();
+                self.next = landing.next();
+                Ok(())
+            }
+        }
     }
 
     /// The return address of the call at which it stands, or 0.
@@ -219,30 +229,39 @@ fn registers_of(room: Vec<u64>, arguments: &[u64], count: usize) -> Result<Vec<u
     Ok(registers)
 }
 
-// What these operands are in a frame with the registers `from`.
-fn words_of(room: Vec<u64>, from: &[u64], operands: &[Operand]) -> Result<Vec<u64>, Memory>
-    ensures { IfOk result (λ words. map number words.items ≡ map (value (map number from.now)) (map worded_operand operands.now)) }
+// What these operands are in a frame with the registers `from`, and 0 in so many registers at least.
+#[inline(always)]
+fn filled(
+    room: Vec<u64>,
+    count: usize,
+    from: &[u64],
+    operands: &[Operand],
+) -> Result<Vec<u64>, Memory>
+    ensures { IfOk result (λ registers. map number registers.items ≡ map (value (map number from.now)) (map worded_operand operands.now) ++ replicate (count - length operands.now) nothing) }
 {
-    let mut words = room;
-    words.clear();
-    for operand in operands {
-        words.push(word(from, *operand))?;
-    }
-    Ok(words)
+    let mut registers = room;
+    registers.resize(count.max(operands.len()), 0)?;
+    fill(registers.as_mut_slice(), from, operands);
+    Ok(registers)
 }
 
-// These arguments, and 0 in so many registers at least.
-fn filled(arguments: Vec<u64>, count: usize) -> Result<Vec<u64>, Memory>
-    ensures { IfOk result (λ registers. registers.items ≡ arguments.items ++ replicate (count - length arguments.items) 0) }
+// What these operands are in a frame with the registers `from`, and 0 in all registers behind them.
+#[inline(always)]
+fn fill(registers: &mut [u64], from: &[u64], operands: &[Operand])
+    requires { length operands.now ≤ length registers.old }
+    ensures { map number registers.new ≡ map (value (map number from.now)) (map worded_operand operands.now) ++ replicate (length registers.old - length operands.now) nothing }
 {
-    let mut registers = arguments;
-    let given = registers.len();
-    registers.resize(count.max(given), 0)?;
-    Ok(registers)
+    for (place, operand) in operands.iter().enumerate() {
+        registers[place] = word(from, *operand);
+    }
+    for place in operands.len()..registers.len() {
+        registers[place] = 0;
+    }
 }
 
 // The members of a group get their values, of which the first goes to the register `first`. The register of the next result
 // behind them.
+#[inline(always)]
 fn put_members(
     registers: &mut [u64],
     stack: &Stack,
@@ -263,6 +282,7 @@ fn put_members(
     )
 }
 
+#[inline(always)]
 fn put_each(
     registers: &mut [u64],
     stack: &Stack,
@@ -285,58 +305,61 @@ fn put_each(
     Ok(next)
 }
 
-// What phis assign on the edge from a block, all read before any is written. The register of the next result behind them.
+// The phis of a block take effect together on the edge from another. `moves` is room for them.
+#[inline(always)]
+fn carry(
+    registers: &mut [u64],
+    moves: &mut Vec<Move>,
+    landing: &Landing<'_>,
+    from: u32,
+) -> Result<(), Memory>
+    ensures { OnOk result (map number registers.new ≡ put_all (map (phi_write from (map number registers.old)) (lines_left landing.now.first (phis_of landing.now.insts))) (map number registers.old)) }
+{
+    match landing.copies(from) {
+        None => carry_sought(registers, moves, landing, from),
+        Some(copies) => copy_all(registers, moves, copies),
+    }
+}
+
+// The same where each phi is sought the entry of the edge.
+#[cold]
+fn carry_sought(
+    registers: &mut [u64],
+    moves: &mut Vec<Move>,
+    landing: &Landing<'_>,
+    from: u32,
+) -> Result<(), Memory>
+    ensures { OnOk result (map number registers.new ≡ put_all (map (phi_write from (map number registers.old)) (lines_left landing.now.first (phis_of landing.now.insts))) (map number registers.old)) }
+{
+    gather(moves, registers, from, landing.first(), landing.phis())?;
+    do_moves(registers, moves.as_slice());
+    Ok(())
+}
+
+// What phis assign on the edge from a block, all read before any is written.
 fn gather(
     moves: &mut Vec<Move>,
     registers: &[u64],
     from: u32,
     first: usize,
-    phis: Lines<'_>,
-) -> Result<usize, Memory>
-    ensures moves { OnOk result (map write_of moves.new.items ≡ map (phi_write from (map number registers.now)) (lines_left first phis.entry.insts.now)) }
-    ensures next { IfOk result (λ next. next ≡ after_all first phis.entry.insts.now) }
-{
-    gather_all(moves, registers, from, first, phis.insts, phis.decoded())
-}
-
-fn gather_all(
-    moves: &mut Vec<Move>,
-    registers: &[u64],
-    from: u32,
-    first: usize,
     phis: &[Inst],
-    decoded: &[Decoded],
-) -> Result<usize, Memory>
-    requires { decoded.now ≡ map decoded_of phis.now }
-    ensures moves { OnOk result (map write_of moves.new.items ≡ map (phi_write from (map number registers.now)) (lines_left first phis.now)) }
-    ensures next { IfOk result (λ next. next ≡ after_all first phis.now) }
+) -> Result<(), Memory>
+    ensures { OnOk result (map write_of moves.new.items ≡ map (phi_write from (map number registers.now)) (lines_left first phis.now)) }
 {
     moves.clear();
     let mut next = first;
-    for (place, phi) in phis.iter().enumerate() {
-        let word = incoming(registers, from, phi, &decoded[place]);
+    for phi in phis {
         moves.push(Move {
             to: register_of(next, phi),
-            word,
+            word: sought(registers, from, phi),
         })?;
         let after = following(next, phi)?;
         next = after;
     }
-    Ok(next)
+    Ok(())
 }
 
 // The word of a phi on the edge from a block.
-#[inline(always)]
-fn incoming(registers: &[u64], from: u32, phi: &Inst, one: &Decoded) -> u64
-    requires { one.now ≡ decoded_of phi.now }
-    ensures { incoming from (map number registers.now) (line_of 0 phi.now).inst ≡ number result }
-{
-    match one.incoming(registers, from) {
-        None => sought(registers, from, phi),
-        Some(word) => word,
-    }
-}
-
 fn sought(registers: &[u64], from: u32, phi: &Inst) -> u64
     ensures { incoming from (map number registers.now) (line_of 0 phi.now).inst ≡ number result }
 {
@@ -352,7 +375,8 @@ fn place_of(from: u32, labels: &[BlockId]) -> Option<usize>
     labels.iter().position(|label| label.0 == from)
 }
 
-fn do_moves(registers: &mut [u64], moves: &[Move])
+/// The words of phis are written, which were all read before.
+pub(crate) fn do_moves(registers: &mut [u64], moves: &[Move])
     ensures { map number registers.new ≡ put_all (map write_of moves.now) (map number registers.old) }
 {
     for one in moves {

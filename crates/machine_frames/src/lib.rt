@@ -2,12 +2,14 @@
 #![tactic(auto)]
 
 mod code;
+mod copies;
 mod frames;
+mod landings;
 mod numbering;
 mod slots;
 mod tasks;
 
 pub use code::Code;
 pub use frames::{Frame, Move};
-pub use slots::{is_statepoint, keep, write_over};
+pub use slots::is_statepoint;
 pub use tasks::Task;

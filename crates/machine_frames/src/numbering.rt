@@ -12,6 +12,7 @@ use sp_ids::Memory;
 use std::alloc::Global;
 
 /// The register of the next result after an instruction whose own would be this one.
+#[inline(always)]
 pub(crate) fn following(next: usize, inst: &Inst) -> Result<usize, Memory>
     ensures { IfOk result (λ number. number ≡ following next inst.now) }
 {
@@ -23,6 +24,7 @@ pub(crate) fn following(next: usize, inst: &Inst) -> Result<usize, Memory>
 }
 
 /// The register that the result of an instruction goes to.
+#[inline(always)]
 pub(crate) fn register_of(next: usize, inst: &Inst) -> Option<usize>
     ensures { result ≡ (numbered next inst.now).to }
 {
@@ -96,6 +98,7 @@ fn is_phi(op: &Op) -> bool
 }
 
 /// How many results and relocates stand first.
+#[inline(always)]
 pub(crate) fn member_count(insts: &[Inst]) -> usize
     ensures value { result ≡ prefix_len (λ inst. is_member inst.op) insts.now }
     ensures within { result ≤ length insts.now }

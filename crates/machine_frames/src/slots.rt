@@ -1,6 +1,6 @@
 //! Slots: what a statepoint keeps in its frame's words, and what the members of its group read there.
 
-ghost use Rattle.std.specs.Prelude.{◌≡◌, map, drop, filter, ◌++◌, slice_index, OnOk, IfOk};
+ghost use Rattle.std.specs.Prelude.{◌≡◌, ℕ, List, [], ◌∷◌, length, map, drop, filter, ◌++◌, slice_index, OnOk, IfOk};
 ghost use Rattle.ir_ast.specs.Objects.{number};
 ghost use Rattle.frame_forms.specs.FrameSizes.{is_named_integer};
 ghost use Rattle.object_meaning.specs.Numbers.{width_of, sign_extended};
@@ -23,50 +23,74 @@ pub fn is_statepoint(op: &Op) -> bool
     matches!(op, Op::Statepoint { .. })
 }
 
-/// What a statepoint with so many arguments keeps: its live entries, then the integers that its bundle names, sign-extended.
-pub fn keep(
-    words: &mut Vec<u64>,
+/// A statepoint with so many arguments writes what it keeps over the newest words of its stack: its live entries, then the
+/// integers that its bundle names, sign-extended.
+#[inline(always)]
+pub(crate) fn keep(
+    stack: &mut Stack,
     registers: &[u64],
     inst: &Inst,
     arguments: usize,
 ) -> Result<(), Memory>
-    ensures { OnOk result (words.new.items ≡ kept_in (map number registers.now) inst.now arguments) }
+    ensures { OnOk result (stack.new ≡ over (kept_in (map number registers.now) inst.now arguments) stack.old) }
 {
-    words.clear();
-    keep_entries(words, registers, behind(inst.operands(), arguments))?;
-    keep_bundle(words, registers, inst.bundle())
+    let entries = behind(inst.operands(), arguments);
+    keep_entries(stack, registers, entries)?;
+    keep_bundle(stack, registers, entries.len(), inst.bundle())
 }
 
-fn keep_entries(words: &mut Vec<u64>, registers: &[u64], entries: &[Operand]) -> Result<(), Memory>
-    ensures { OnOk result (words.new.items ≡ words.old.items ++ map (λ operand. number_in (value (map number registers.now) operand)) (map worded_operand entries.now)) }
+#[inline(always)]
+fn keep_entries(stack: &mut Stack, registers: &[u64], entries: &[Operand]) -> Result<(), Memory>
+    ensures { OnOk result (stack.new ≡ over (map (λ operand. number_in (value (map number registers.now) operand)) (map worded_operand entries.now)) stack.old) }
 {
-    for entry in entries {
-        words.push(word(registers, *entry))?;
+    for (place, entry) in entries.iter().enumerate() {
+        keep_word(stack, place, word(registers, *entry))?;
     }
     Ok(())
 }
 
+// Behind so many words that are kept.
+#[inline(always)]
 fn keep_bundle(
-    words: &mut Vec<u64>,
+    stack: &mut Stack,
     registers: &[u64],
+    kept: usize,
     bundle: &[(Ty, Operand)],
 ) -> Result<(), Memory>
-    ensures { OnOk result (words.new.items ≡ words.old.items ++ map (λ entry. sign_extended (width_of entry.0) 64 (number_in (value (map number registers.now) entry.1))) (filter (λ entry. is_named_integer entry.0 entry.1) bundle.now)) }
+    ensures { OnOk result ((words before : List ℕ) → length words ≡ kept → stack.old ≡ over words before → stack.new ≡ over (words ++ map (λ entry. sign_extended (width_of entry.0) 64 (number_in (value (map number registers.now) entry.1))) (filter (λ entry. is_named_integer entry.0 entry.1) bundle.now)) before) }
 {
+    let mut next = kept;
     for entry in bundle {
         if is_named_integer(entry.0, entry.1) {
-            words.push(widened(&entry.0, word(registers, entry.1)))?;
+            let wide = widened(&entry.0, word(registers, entry.1));
+            keep_word(stack, next, wide)?;
+            let after = next.checked_add(1).ok_or(Memory)?;
+            next = after;
         }
     }
     Ok(())
 }
 
+// The word with this place is written, behind so many that are kept.
+#[inline(always)]
+fn keep_word(stack: &mut Stack, place: usize, word: u64) -> Result<(), Memory>
+    ensures { OnOk result ((words before : List ℕ) → length words ≡ place → stack.old ≡ over words before → stack.new ≡ over (words ++ word ∷ []) before) }
+{
+    if place >= stack.len() || place > u32::MAX as usize {
+        return Err(Memory);
+    }
+    stack.set_word(place as u32, word);
+    Ok(())
+}
+
+#[inline(always)]
 fn is_named_integer(ty: Ty, operand: Operand) -> bool
     ensures { result ≡ is_named_integer ty operand }
 {
     matches!(ty, Ty::Int(_)) && matches!(operand, Operand::Value(_))
 }
 
+#[inline(always)]
 fn behind(operands: &[Operand], count: usize) -> &[Operand]
     ensures { result.now ≡ drop count operands.now }
 {
@@ -75,19 +99,6 @@ fn behind(operands: &[Operand], count: usize) -> &[Operand]
     } else {
         &[]
     }
-}
-
-/// Writes these words over the newest of a stack, which has as many.
-pub fn write_over(stack: &mut Stack, words: &[u64]) -> Result<(), Memory>
-    ensures { OnOk result (stack.new ≡ over words.now stack.old) }
-{
-    if words.len() > stack.len() || words.len() > u32::MAX as usize {
-        return Err(Memory);
-    }
-    for (place, word) in words.iter().enumerate() {
-        stack.set_word(place as u32, *word);
-    }
-    Ok(())
 }
 
 /// What a member of a group gets: a relocate the present word of its derived slot, a result the callee's answer.

@@ -5,14 +5,15 @@ ghost use Rattle.ir_ast.specs.Objects.{number};
 ghost use Rattle.object_meaning.specs.Registers.{value};
 ghost use Rattle.machine_meaning.specs.Code.{words_in};
 ghost use Rattle.machine_meaning.specs.Words.{worded_operand};
-ghost use Rattle.machine_meaning.specs.Machines.{gone_behind, gone_from};
+ghost use Rattle.machine_meaning.specs.Machines.{gone_behind, gone_from, over};
 ghost use Rattle.machine_lines.specs.Lines.{line_of, lines_left};
 ghost use Rattle.object_meaning.specs.Lines.{following};
-ghost use Rattle.machine_frames.specs.Frames.{frame_of, entered_in, below_of};
+ghost use Rattle.machine_frames.specs.Frames.{frame_of, entered_in, below_of, kept_in};
 ghost use Rattle.machine_frames.specs.Tasks.{Begins, Enters, Leaves};
 
 use crate::code::Code;
 use crate::frames::Frame;
+use crate::slots::keep;
 use frame_walk::Stack;
 use ir_ast::{Inst, Operand};
 use machine_lines::Lines;
@@ -72,6 +73,7 @@ impl<'m> Task<'m> {
     }
 
     /// The same of a call whose arguments are what these operands are in the frame that runs.
+    #[inline(always)]
     pub fn call(
         &mut self,
         alloc: Global,
@@ -92,7 +94,17 @@ impl<'m> Task<'m> {
         Ok(())
     }
 
+    /// The frame that runs stands at a statepoint with so many arguments, which writes what it keeps into its slots.
+    #[inline(always)]
+    pub fn keep(&mut self, inst: &Inst, arguments: usize) -> Result<(), Memory>
+        ensures { OnOk result (self.new ≡ record self.old { stack = over (kept_in (map number self.old.frame.registers.items) inst.now arguments) self.old.stack }) }
+    {
+        let registers = self.frame.registers.as_slice();
+        keep(&mut self.stack, registers, inst, arguments)
+    }
+
     /// The frame that runs and stands at a call goes on behind it with the answer.
+    #[inline(always)]
     pub fn go_on(&mut self, answer: u64) -> Result<(), Memory>
         ensures frame { OnOk result (frame_of self.new.frame ≡ gone_from self.old.stack (frame_of self.old.frame) (frame_of self.old.frame).rest (number answer)) }
         ensures others { self.new ≡ record self.old { frame = self.new.frame } }
@@ -101,6 +113,7 @@ impl<'m> Task<'m> {
     }
 
     /// The same of a frame that stands at this call.
+    #[inline(always)]
     pub fn go_behind(&mut self, inst: &Inst, rest: Lines<'m>, answer: u64) -> Result<(), Memory>
         ensures frame { OnOk result (frame_of self.new.frame ≡ gone_behind self.old.stack (frame_of self.old.frame) (line_of self.old.frame.next inst.now) (lines_left (following self.old.frame.next inst.now) rest.entry.insts.now) (number answer) inst.now.op) }
         ensures others { self.new ≡ record self.old { frame = self.new.frame } }
@@ -109,6 +122,7 @@ impl<'m> Task<'m> {
     }
 
     /// The newest of the frames that wait runs again, and the running one is gone. Whether there was one.
+    #[inline(always)]
     pub fn leave(&mut self, code: &Code) -> Result<bool, Memory>
         ensures { IfOk result (λ left. Leaves code.now self.old left self.new) }
     {

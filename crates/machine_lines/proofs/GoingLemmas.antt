@@ -1,5 +1,5 @@
 -- What a quiet line does, as a step of the machine.
-use Rattle.std.proofs.Common.{◌≡◌, ℕ, zero, suc, ◌+◌, ◌<◌, ◌≤◌, Bool, true, false, List, [], ◌∷◌, map, drop, length, get_or, refl, sym, ap, subst, ◌∙◌}
+use Rattle.std.proofs.Common.{◌≡◌, ℕ, suc, ◌+◌, Bool, true, false, List, [], ◌∷◌, map, drop, refl, sym, ap, subst, ◌∙◌}
 use Rattle.std.specs.Prelude.{Option, Some, None, Result, Ok, ◌&&◌, is_some, slice_set, IfSome}
 use Rattle.sp_ids.specs.declared.ends.Trap.{Trap}
 use Rattle.ir_ast.specs.declared.cells.Cell.{Cell}
@@ -7,14 +7,11 @@ use Rattle.ir_ast.specs.declared.ops.Callee.TheVariants.{Check}
 use Rattle.ir_ast.specs.declared.ops.Elem.{Elem}
 use Rattle.ir_ast.specs.declared.ops.Op.{Op}
 use Rattle.ir_ast.specs.declared.ops.Op.TheVariants.{Add, Sub, Mul, Udiv, Sdiv, Urem, Srem, And, Or, Xor, Shl, Lshr, Ashr, Icmp, Trunc, Zext, Sext, Select, Gep, Load, Store, Call}
-use Rattle.ir_ast.specs.declared.ops.Operand.{Operand}
 use Rattle.ir_ast.specs.declared.types.Ty.{Ty}
 use Rattle.ir_ast.specs.declared.types.Ty.TheVariants.{Int}
 use Rattle.ir_ast.specs.Insts.{Instruction}
 use Rattle.ir_ast.specs.Layouts.{ObjectLayout}
 use Rattle.ir_ast.specs.Objects.{Datum, number}
-use Rattle.moving_heap.specs.declared.heap.Deny.{Deny}
-use Rattle.moving_heap.specs.Contents.{Content}
 use Rattle.moving_heap.specs.Heaps.{HeapView, checked, loaded, stored_at}
 use Rattle.moving_heap.specs.Places.{owner}
 use Rattle.object_meaning.specs.Accesses.{cell_named}
@@ -23,13 +20,12 @@ use Rattle.object_meaning.specs.Effects.{Effect, goes_on}
 use Rattle.object_meaning.specs.Lines.{Line, following}
 use Rattle.object_meaning.specs.Numbers.{width_of}
 use Rattle.object_meaning.specs.Registers.{nothing, operand, number_in, put}
-use Rattle.object_meaning.specs.States.{Frame}
 use Rattle.object_meaning.specs.Steps.{settled}
 use Rattle.machine_meaning.specs.Machines.{Machine, Machinery, gone_behind, lifted}
 use Rattle.machine_meaning.specs.MachineSteps.{checking, loading_word, machine_acts, machine_step, passes, storing_word, stepped_word}
 use Rattle.machine_meaning.specs.Words.{worded_operand, worded_type}
 use Rattle.machine_lines.specs.Decoding.{decoded_of, found_word, is_plain}
-use Rattle.machine_lines.specs.Going.{Does, DoesLine, GoesOver, PassesOften, Passes, is_quiet, still, stood}
+use Rattle.machine_lines.specs.Going.{Does, DoesLine, GoesOver, Passes, is_quiet, still, stood}
 use Rattle.machine_lines.specs.Lines.{line_of, lines_left}
 use Rattle.machine_lines.specs.declared.decoded.Decoded.{Decoded}
 use Rattle.machine_lines.proofs.DecodeLemmas.{source_at_is}
@@ -75,12 +71,12 @@ abbrev pub held : List ℕ → Instruction → ℕ → Datum
 held registers inst place = operand (map number registers) (map worded_operand inst.operands) place
 
 module _ (layouts : List ObjectLayout) (inst : Instruction) (registers : List ℕ) (heap : HeapView) where
-  pub number_does : (word : ℕ) → length registers ≤ 18446744073709551615 → is_plain inst.op ≡ true
+  pub number_does : (word : ℕ) → is_plain inst.op ≡ true
       → computed [] inst.op (worded_type inst.op inst.ty) (number (found_word registers (decoded_of inst).first)) (number (found_word registers (decoded_of inst).second))
       (number (found_word registers (decoded_of inst).third)) ≡ Ok (number word)
       → Does layouts inst registers heap word heap
   unfolding machine_step
-  number_does word few plain is = record { quiet = plain_quiet inst.op plain; goes = goes }
+  number_does word plain is = record { quiet = plain_quiet inst.op plain; goes = goes }
     where
       goes : (machinery : Machinery) (machine : Machine) (next : ℕ) (rest : List Instruction) → layouts ≡ machinery.setting.layouts
           → machine_step machinery (stood machine (lines_left next (inst ∷ rest)) (map number registers) heap)
@@ -91,18 +87,17 @@ module _ (layouts : List ObjectLayout) (inst : Instruction) (registers : List �
           let first : Datum = number (found_word registers (decoded_of inst).first) in let second : Datum = number (found_word registers (decoded_of inst).second) in
           plain_acts machinery now line lines inst.op plain
           ∙ ap (λ (r : Result Datum Trap). lifted now (settled now.state line lines r))
-          (ap (λ (a : Datum). computed [] inst.op ty a (held registers inst 1) (held registers inst 2)) (source_at_is registers inst.operands 0 few)
-          ∙ ap (λ (b : Datum). computed [] inst.op ty first b (held registers inst 2)) (source_at_is registers inst.operands 1 few)
-          ∙ ap (λ (d : Datum). computed [] inst.op ty first second d) (source_at_is registers inst.operands 2 few)
+          (ap (λ (a : Datum). computed [] inst.op ty a (held registers inst 1) (held registers inst 2)) (source_at_is registers inst.operands 0)
+          ∙ ap (λ (b : Datum). computed [] inst.op ty first b (held registers inst 2)) (source_at_is registers inst.operands 1)
+          ∙ ap (λ (d : Datum). computed [] inst.op ty first second d) (source_at_is registers inst.operands 2)
           ∙ is)
 
   pub numbers_do : (one : Decoded) (op : Op) (ty : Ty) (found : Option ℕ) → one ≡ decoded_of inst → op ≡ inst.op → ty ≡ inst.ty → IfSome found (λ word. one.plain ≡ true)
-      → IfSome found (λ word. length registers ≤ 18446744073709551615)
       → IfSome found (λ word. computed [] op (worded_type op ty) (number (found_word registers one.first)) (number (found_word registers one.second)) (number (found_word registers one.third)) ≡ Ok (number word))
       → IfSome found (λ word. Does layouts inst registers heap word heap)
-  numbers_do one op ty None one_is op_is ty_is plain few value = tt
-  numbers_do one op ty (Some word) one_is op_is ty_is plain few value =
-      number_does word few (plain_is (is_plain inst.op) (is_some inst.result) (sym (ap (λ (d : Decoded). d.plain) one_is) ∙ plain)) (rw (one_is, op_is, ty_is) at value)
+  numbers_do one op ty None one_is op_is ty_is plain value = tt
+  numbers_do one op ty (Some word) one_is op_is ty_is plain value =
+      number_does word (plain_is (is_plain inst.op) (is_some inst.result) (sym (ap (λ (d : Decoded). d.plain) one_is) ∙ plain)) (rw (one_is, op_is, ty_is) at value)
 
   pub load_does : (p word : ℕ) → inst.op ≡ Load → held registers inst 0 ≡ number p → Ok word ≡ loaded heap p → Does layouts inst registers heap word heap
   unfolding machine_step

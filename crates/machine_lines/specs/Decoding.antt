@@ -1,7 +1,6 @@
 -- Lines decoded: where their operands are found, and the bits of their types.
-use Rattle.std.specs.Prelude.{ℕ, Bool, true, false, ◌&&◌, is_some, List, slice_get, slice_index_or}
+use Rattle.std.specs.Prelude.{ℕ, Bool, true, false, ◌&&◌, is_some, List, slice_get, slice_index}
 use Rattle.std.specs.Option.{option_map_or}
-use Rattle.sp_ids.specs.declared.ids.BlockId.{BlockId}
 use Rattle.ir_ast.specs.declared.ops.Op.{Op}
 use Rattle.ir_ast.specs.declared.ops.Op.TheVariants.{Add, Sub, Mul, Udiv, Sdiv, Urem, Srem, And, Or, Xor, Shl, Lshr, Ashr, Icmp, Trunc, Zext, Sext, Select, Gep, Load, Store, Call}
 use Rattle.ir_ast.specs.declared.ops.Operand.{Operand}
@@ -9,6 +8,7 @@ use Rattle.ir_ast.specs.declared.ops.Operand.TheVariants.{Value, Int}
 use Rattle.ir_ast.specs.Insts.{Instruction}
 use Rattle.object_meaning.specs.Numbers.{width_of}
 use Rattle.machine_lines.specs.declared.decoded.Source.{Source}
+use Rattle.machine_lines.specs.declared.decoded.Source.TheVariants.{Register, Literal}
 use Rattle.machine_lines.specs.declared.decoded.Decoded.{Decoded}
 
 -- a line that computes a number of numbers
@@ -33,17 +33,13 @@ is_plain (Sext to) = true
 is_plain Select = true
 is_plain _ = false
 
--- no frame has so many registers
-abbrev pub literal : ℕ → Source
-literal number = record { register = 18446744073709551615; literal = number }
-
 abbrev pub source_of : Operand → Source
-source_of (Value id) = record { register = id.0; literal = 0 }
-source_of (Int number) = literal number
-source_of operand = literal 0
+source_of (Value id) = Register id.0
+source_of (Int number) = Literal number
+source_of operand = Literal 0
 
 abbrev pub source_at : List Operand → ℕ → Source
-source_at operands place = option_map_or source_of (slice_get operands place) (literal 0)
+source_at operands place = option_map_or source_of (slice_get operands place) (Literal 0)
 
 -- a line that may stay in its frame
 abbrev pub stays : Op → Bool
@@ -52,10 +48,6 @@ stays Load = true
 stays Store = true
 stays (Call callee types) = true
 stays op = is_plain op
-
--- the block of a label; no function has so many blocks
-abbrev pub label_in : List BlockId → ℕ → ℕ
-label_in labels place = option_map_or (λ label. label.0) (slice_get labels place) 18446744073709551615
 
 abbrev pub decoded_of : Instruction → Decoded
 decoded_of inst = record {
@@ -66,10 +58,9 @@ decoded_of inst = record {
   first = source_at inst.operands 0;
   second = source_at inst.operands 1;
   third = source_at inst.operands 2;
-  label = label_in inst.labels 0;
-  other = label_in inst.labels 1;
 }
 
--- the word at a source
+-- the word at a source; a register that isn't there is 0
 abbrev pub found_word : List ℕ → Source → ℕ
-found_word registers source = slice_index_or registers source.register source.literal
+found_word registers (Register place) = slice_index registers place
+found_word registers (Literal word) = word

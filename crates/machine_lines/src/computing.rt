@@ -1,6 +1,6 @@
 //! What the lines on integers compute, on words.
 
-ghost use Rattle.std.specs.Prelude.{◌≡◌, ◌≤◌, true, [], Ok, IfSome, length};
+ghost use Rattle.std.specs.Prelude.{◌≡◌, ◌≤◌, true, [], Ok, IfSome};
 ghost use Rattle.ir_ast.specs.Objects.{number};
 ghost use Rattle.object_meaning.specs.Comparisons.{bit, numbers_compare};
 ghost use Rattle.object_meaning.specs.Computing.{computed, with_number};
@@ -57,12 +57,12 @@ pub fn computed(op: &Op, ty: &Ty, first: u64, second: u64, third: u64) -> Result
 }
 
 /// The number that a line with this operator and type gives which computes one, unless it traps; none, for any other line.
+#[inline(always)]
 pub(crate) fn outcome(op: &Op, ty: &Ty, decoded: &Decoded, registers: &[u64]) -> Option<u64>
     requires some_bits { 1 ≤ decoded.now.width }
     requires word { decoded.now.width ≤ 64 }
     requires width { decoded.now.width ≡ width_of ty.now }
     ensures plain { IfSome result (λ word. decoded.now.plain ≡ true) }
-    ensures few { IfSome result (λ word. length registers.now ≤ 18446744073709551615) }
     ensures value { IfSome result (λ word. computed [] op.now (worded_type op.now ty.now) (number (found_word registers.now decoded.now.first)) (number (found_word registers.now decoded.now.second)) (number (found_word registers.now decoded.now.third)) ≡ Ok (number word)) }
 {
     if !decoded.plain {
@@ -156,6 +156,7 @@ fn compared(pred: Pred, ty: &Ty, left: u64, right: u64) -> Result<u64, Trap>
     Ok(compared_word(pred, ty, left, right))
 }
 
+#[inline(always)]
 fn compared_word(pred: Pred, ty: &Ty, left: u64, right: u64) -> u64
     ensures { result ≡ bit (numbers_compare pred (width_of (worded_type (Op.Icmp pred) ty.now)) left right) }
 {

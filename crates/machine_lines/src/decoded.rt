@@ -1,30 +1,31 @@
 //! The lines of a block, each beside what a line that computes numbers needs of its type and its operands.
 
-ghost use Rattle.std.specs.Prelude.{◌≡◌, ◌∷◌, ◌≤◌, [], take, drop, length, map, MatchOption, IfOk, IfSome, slice_get, slice_index_or};
+ghost use Rattle.std.specs.Prelude.{◌≡◌, ◌==◌, ◌∷◌, ◌≤◌, ℕ, List, false, [], take, drop, length, map, MatchOption, IfOk, IfSome, slice_get};
+ghost use Rattle.std.specs.Option.{option_map_or};
 ghost use Rattle.ir_ast.specs.Insts.{Instruction};
 ghost use Rattle.ir_ast.specs.Objects.{number};
 ghost use Rattle.object_meaning.specs.Frames.{index_in};
 ghost use Rattle.object_meaning.specs.Jumps.{incoming};
 ghost use Rattle.object_meaning.specs.Registers.{operand};
 ghost use Rattle.machine_meaning.specs.Words.{worded_operand};
-ghost use Rattle.machine_lines.specs.Decoding.{decoded_of, label_in, source_at, source_of, found_word, stays};
+ghost use Rattle.machine_lines.specs.Decoding.{decoded_of, source_at, source_of, found_word, stays};
 ghost use Rattle.machine_lines.specs.Lines.{line_of};
 
 use crate::computing::is_plain;
 use flat_code::width_of;
-use ir_ast::{Block, Inst, Op, Operand};
+use ir_ast::{Inst, Op, Operand};
 use sp_ids::{BlockId, Memory};
 use std::alloc::Global;
 
-/// Where an operand is found: in a register, or where the frame has no such register, as a literal.
+/// Where an operand is found: in a register, or as a literal.
 #[derive(Clone, Copy, Debug)]
-pub struct Source {
-    pub register: usize,
-    pub literal: u64,
+pub enum Source {
+    Register(usize),
+    Literal(u64),
 }
 
-/// Whether a line may stay in its frame, has a result, and computes it as a number of numbers; the bits of its type, its first
-/// three operands, and the blocks of its first two labels, where it has them.
+/// Whether a line may stay in its frame, has a result, and computes it as a number of numbers; the bits of its type, and its first
+/// three operands.
 #[derive(Clone, Copy, Debug)]
 pub struct Decoded {
     pub stays: bool,
@@ -34,8 +35,6 @@ pub struct Decoded {
     pub first: Source,
     pub second: Source,
     pub third: Source,
-    pub label: usize,
-    pub other: usize,
 }
 
 /// Instructions that follow one another, and each decoded.
@@ -129,55 +128,56 @@ impl Decoded {
         self.third.word(registers)
     }
 
-    /// The word of a phi that is decoded so on the edge from a block, where that is among the blocks of its first two entries.
-    #[inline(always)]
-    pub fn incoming(&self, registers: &[u64], from: u32) -> Option<u64>
-        ensures { IfSome result (λ word. (phi : Instruction) → self.now ≡ decoded_of phi → incoming from (map number registers.now) (line_of 0 phi).inst ≡ number word) }
-    {
-        if self.label == from as usize {
-            Some(self.first.word(registers))
-        } else if self.other == from as usize {
-            Some(self.second.word(registers))
-        } else {
-            None
-        }
-    }
-
     /// The index that a relocate names which is decoded so.
     #[inline(always)]
     pub fn index(&self) -> u64
         ensures { (member : Instruction) → self.now ≡ decoded_of member → index_in (slice_get (map worded_operand member.operands) 2) ≡ result }
     {
-        self.third.literal
-    }
-}
-
-impl Source {
-    /// The word that it is in a frame with these registers, which are never as many as a word can count.
-    pub fn word(self, registers: &[u64]) -> u64
-        ensures value { result ≡ found_word registers.now self }
-        ensures few { length registers.now ≤ 18446744073709551615 }
-    {
-        if self.register < registers.len() {
-            registers[self.register]
-        } else {
-            self.literal
+        match self.third {
+            Source::Register(_) => 0,
+            Source::Literal(index) => index,
         }
     }
 }
 
-/// The instructions of each block, decoded.
-pub fn decoded_blocks(alloc: Global, blocks: &[Block]) -> Result<Vec<Vec<Decoded>>, Memory>
-    ensures { IfOk result (λ all. map (λ block. block.items) all.items ≡ map (λ block. map decoded_of block.insts) blocks.now) }
-{
-    let mut all = Vec::with_capacity(alloc, blocks.len())?;
-    for block in blocks {
-        all.push(decoded_all(alloc, block.insts())?)?;
+impl Source {
+    /// The word that it is in a frame with these registers, of which those that aren't there are 0.
+    #[inline(always)]
+    pub fn word(self, registers: &[u64]) -> u64
+        ensures { result ≡ found_word registers.now self }
+    {
+        match self {
+            Source::Register(place) => registers.get(place).copied().unwrap_or(0),
+            Source::Literal(word) => word,
+        }
     }
-    Ok(all)
 }
 
-fn decoded_all(alloc: Global, insts: &[Inst]) -> Result<Vec<Decoded>, Memory>
+/// Where a phi finds its word on the edge from a block, where that is among the blocks of its first two entries.
+pub fn incoming_source(phi: &Inst, from: u32) -> Option<Source>
+    ensures { IfSome result (λ source. (registers : List ℕ) → incoming from (map number registers) (line_of 0 phi.now).inst ≡ number (found_word registers source)) }
+{
+    if is_from(phi.labels(), 0, from) {
+        Some(source_at(phi.operands(), 0))
+    } else if is_from(phi.labels(), 1, from) {
+        Some(source_at(phi.operands(), 1))
+    } else {
+        None
+    }
+}
+
+// Whether there is a label at this place, and it is this block.
+fn is_from(labels: &[BlockId], place: usize, from: u32) -> bool
+    ensures { result ≡ option_map_or (λ label. label.0 == from) (slice_get labels.now place) false }
+{
+    match labels.get(place) {
+        None => false,
+        Some(label) => label.0 == from,
+    }
+}
+
+/// These instructions, decoded.
+pub fn decoded_all(alloc: Global, insts: &[Inst]) -> Result<Vec<Decoded>, Memory>
     ensures { IfOk result (λ list. list.items ≡ map decoded_of insts.now) }
 {
     let mut list = Vec::with_capacity(alloc, insts.len())?;
@@ -198,8 +198,6 @@ fn decoded_of(inst: &Inst) -> Decoded
         first: source_at(inst.operands(), 0),
         second: source_at(inst.operands(), 1),
         third: source_at(inst.operands(), 2),
-        label: label_in(inst.labels(), 0),
-        other: label_in(inst.labels(), 1),
     }
 }
 
@@ -216,21 +214,11 @@ fn stays(op: &Op) -> bool
     }
 }
 
-// The block of a label, or what is none.
-fn label_in(labels: &[BlockId], place: usize) -> usize
-    ensures { result ≡ label_in labels.now place }
-{
-    match labels.get(place) {
-        None => usize::MAX,
-        Some(label) => label.0 as usize,
-    }
-}
-
 fn source_at(operands: &[Operand], place: usize) -> Source
     ensures { result ≡ source_at operands.now place }
 {
     match operands.get(place) {
-        None => literal(0),
+        None => Source::Literal(0),
         Some(operand) => source_of(*operand),
     }
 }
@@ -239,22 +227,9 @@ fn source_of(operand: Operand) -> Source
     ensures { result ≡ source_of operand }
 {
     match operand {
-        Operand::Value(id) => Source {
-            register: id.0 as usize,
-            literal: 0,
-        },
-        Operand::Int(number) => literal(number),
-        Operand::Null => literal(0),
-        Operand::Fun(_) => literal(0),
-    }
-}
-
-// No frame has so many registers.
-fn literal(number: u64) -> Source
-    ensures { result ≡ record { register = 18446744073709551615; literal = number } }
-{
-    Source {
-        register: usize::MAX,
-        literal: number,
+        Operand::Value(id) => Source::Register(id.0 as usize),
+        Operand::Int(number) => Source::Literal(number),
+        Operand::Null => Source::Literal(0),
+        Operand::Fun(_) => Source::Literal(0),
     }
 }

@@ -17,6 +17,7 @@ use moving_heap::Heap;
 
 /// The lines that stand first take effect on registers and on the heap, up to one that leaves its frame, is denied or traps, or
 /// has no register for its result. How many they are, and the register of the next result.
+#[inline(always)]
 pub fn go_over(
     registers: &mut [u64],
     heap: &mut Heap,
@@ -40,6 +41,7 @@ pub fn go_over(
     )
 }
 
+#[inline(always)]
 fn go_over_all(
     registers: &mut [u64],
     heap: &mut Heap,

@@ -10,7 +10,7 @@ mod words;
 
 pub use accesses::{cell_named, fields_of, stepped_word};
 pub use computing::{computed, is_plain, widened};
-pub use decoded::{Decoded, Lines, Source, decoded_blocks};
+pub use decoded::{Decoded, Lines, Source, decoded_all, incoming_source};
 pub use going::go_over;
 pub use targets::{branch_taken, case_taken, label_at};
 pub use words::{put, word, word_at};

@@ -38,6 +38,7 @@ pub fn word_at(registers: &[u64], operands: &[Operand], place: usize) -> u64
 }
 
 /// The register that a result goes to is written.
+#[inline(always)]
 pub fn put(registers: &mut [u64], to: Option<usize>, word: u64)
     ensures { map number registers.new ≡ put to (number word) (map number registers.old) }
 {
@@ -46,6 +47,7 @@ pub fn put(registers: &mut [u64], to: Option<usize>, word: u64)
     }
 }
 
+#[inline(always)]
 fn write(registers: &mut [u64], register: usize, word: u64)
     ensures { registers.new ≡ slice_set registers.old register word }
 {

@@ -13,7 +13,7 @@ use Rattle.line_tokens.specs.declared.words.Conversion.TheVariants as conversion
 use Rattle.ir_ast.specs.Insts.{Instruction}
 use Rattle.ir_ast.specs.Ops.{is_terminator}
 use Rattle.ir_ast.specs.Blocks.{EndsAtTerminator}
-use Rattle.ir_lines.specs.Statements.{Statement, Line, close, label, binary, compare, convert, select, phi, scalar_step, layout_step, load, store, call, jump, branch, switch, switch_case, switch_end, ret_void, ret, unreachable, statepoint, gc_result, gc_relocate}
+use Rattle.ir_lines.specs.Statements.{Statement, Line, close, label, binary, compare, convert, select, phi, scalar_step, layout_step, load, store, call, jump, branch, switch, switch_case, switch_end, ret_void, ret, unreachable, cast, statepoint, gc_result, gc_relocate}
 use Rattle.ir_lines.specs.Sections.{Definition, BlockLines, is_close, is_label, label_said, until_label, block_at, labelled_blocks, first_block, blocks_of, count_numbered}
 use Rattle.ir_lines.specs.Modules.{Known, binary_of, conversion_of, instruction_said, with_line, instructions_of, insts_of}
 use Rattle.ir_lines.specs.TextLines.{behind_instruction, behind_head, behind_closed, behind_case, place_behind, Goes, Stand}
@@ -130,6 +130,7 @@ leads-any known behind (branch condition on_true on_false) = refl
 leads-any known behind ret_void = refl
 leads-any known behind (ret ty value) = refl
 leads-any known behind unreachable = refl
+leads-any known behind (cast result op from value to) = refl
 leads-any known behind (switch width value default) = refl
 leads-any known behind what = tt
 

@@ -453,8 +453,8 @@ impl Scope<'_, '_, '_, '_> {
         }
     }
 
-    /// A call that passes these.
-    pub fn call(
+    // A call that passes these.
+    fn call(
         &self,
         alloc: Global,
         name: Option<&[u8]>,
@@ -675,6 +675,8 @@ impl Scope<'_, '_, '_, '_> {
                 base,
                 derived,
             } => gc_relocate(local, alloc, result, token, *base, *derived),
+            // no module has a cast: a call that passes nothing keeps its result's place among the values
+            Reading::Cast { result, to, .. } => self.call(alloc, Some(*result), *to, &[], &[]),
             _ => Ok(None),
         }
     }

@@ -17,7 +17,7 @@ use Rattle.ir_reader.specs.declared.states.Place.TheVariants as places
 use Rattle.ir_lines.specs.Statements.{Line}
 use Rattle.ir_lines.specs.Sections.{Definition, definitions_of, blocks_of, arguments_named}
 use Rattle.ir_lines.specs.Modules.{known_of, block_of, argument_of}
-use Rattle.ir_resolve.specs.Resolved.{stands_for}
+use Rattle.ir_resolve.specs.Resolved.{resolved}
 use Rattle.ir_resolve.specs.FaultSet.{HasNoResolvedFault}
 use Rattle.ir_resolve.proofs.Unbroken.{unbroken_of, unbroken_entry, unbroken_phis, unbroken_derived, unbroken_pointers, unbroken_shapes, unbroken_main}
 use Rattle.ir_resolve.proofs.Standing.{BodyStands, bodies}
@@ -39,9 +39,9 @@ use Rattle.module_laws.proofs.ReadCounts.{total_all}
 own_faultless : (form : Form) (lines : List Line) (func : Definition) → InLaw form lines func → OfForm form (made lines func)
 own_faultless Source lines func law =
     let k = kept Source lines func law in
-    (function_source lines func law, unbroken_derived (stands_for Source lines) k.unbroken k.number (made lines func) k.is_function refl)
+    (function_source lines func law, unbroken_derived (resolved Source lines) k.unbroken k.number (made lines func) k.is_function refl)
 own_faultless Rewritten lines func law =
-    let k = kept Rewritten lines func law in unbroken_shapes (stands_for Rewritten lines) k.unbroken k.number (made lines func) k.is_function refl
+    let k = kept Rewritten lines func law in unbroken_shapes (resolved Rewritten lines) k.unbroken k.number (made lines func) k.is_function refl
 
 few_instructions : (form : Form) (lines : List Line) (func : Definition) → InLaw form lines func → length (instructions_of (made lines func).blocks) < 2 ^ 24
 few_instructions form lines func law =
@@ -86,9 +86,9 @@ faultless form lines func law =
     record {
       local = local_known form lines func law;
       global = global_known form lines func law;
-      entry = unbroken_entry (stands_for form lines) k.unbroken k.number (made lines func) k.is_function;
-      phis = unbroken_phis (stands_for form lines) k.unbroken k.number (made lines func) k.is_function;
-      pointers = unbroken_pointers (stands_for form lines) k.unbroken k.number (made lines func) k.is_function;
+      entry = unbroken_entry (resolved form lines) k.unbroken k.number (made lines func) k.is_function;
+      phis = unbroken_phis (resolved form lines) k.unbroken k.number (made lines func) k.is_function;
+      pointers = unbroken_pointers (resolved form lines) k.unbroken k.number (made lines func) k.is_function;
       form = own_faultless form lines func law;
     }
 

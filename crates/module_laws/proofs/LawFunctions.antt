@@ -41,7 +41,7 @@ use Rattle.ir_lines.specs.Sections.{Definition, definitions_of, Naming, BlockLin
 use Rattle.ir_lines.specs.Scope.{scope_of, block_named}
 use Rattle.ir_lines.specs.Modules.{known_of, type_of, operand_of, label_of, argument_of, block_of, function_of, instruction_said}
 use Rattle.ir_lines.specs.Faults.Reserved.{names_value, names_label}
-use Rattle.ir_resolve.specs.Resolved.{stands_for}
+use Rattle.ir_resolve.specs.Resolved.{resolved}
 use Rattle.ir_resolve.specs.TextFaults.{reserved}
 use Rattle.ir_resolve.specs.ModuleFaults.{IsTypedBesidesCalls}
 use Rattle.ir_resolve.specs.FaultSet.{of_text}
@@ -50,6 +50,7 @@ use Rattle.ir_lines.specs.ReadLines.{SaysRead, IsReadArgument, IsNameIfAny, IsRe
 use Rattle.module_laws.proofs.LawBodies.{body_insts, func_insts}
 use Rattle.module_laws.proofs.LawFacts.{or-left, or-right}
 use Rattle.module_laws.proofs.LawValues.{few_insts, length-named}
+use Rattle.ir_lines.specs.Faults.PointerCast.{is_cast}
 use Rattle.module_laws.proofs.LawLines.{InLaw, LineFacts, line_facts, all_lines, made, read_function, said_function, is_value_in, names-are}
 use Rattle.module_laws.proofs.LawTyped.{GoodInst, inst_typed, content, scope_made, two_values, one_value, both, type_width, answer_width, answers, good_binary, good_compare, good_convert, good_select, good_scalar, good_load, good_store, good_ret_void, good_ret, good_unreachable, is_first}
 use Rattle.module_laws.proofs.LawGroups.{good_statepoint, good_gc_result, good_gc_relocate}
@@ -123,6 +124,7 @@ good_said form lines func law (statepoint result called live) after facts behind
 good_said form lines func law (gc_result result ty token) after facts behind = good_gc_result form lines func law result ty token facts
 good_said form lines func law (gc_relocate result token base derived) after facts behind =
     good_gc_relocate form lines func law result token base derived facts
+good_said form lines func law (cast result op from value to) after facts behind = absurd (let bad : true ≡ false = facts.no_cast in cc)
 good_said form lines func law _ after facts behind = tt
 
 pub if_some : (P : Instruction → Type 0) (o : Option Instruction) → IfSome o P → (inst : Instruction) → o ≡ Some inst → P inst
@@ -151,7 +153,7 @@ good_insts form lines func law =
 pub record IsKept (form : Form) (lines : List Line) (func : Definition) : Type 0 where
   pub number : ℕ
   pub is_function : slice_get (content form lines).funcs number ≡ Some (made lines func)
-  pub unbroken : IsUnbroken (stands_for form lines)
+  pub unbroken : IsUnbroken (resolved form lines)
 
 pub kept : (form : Form) (lines : List Line) (func : Definition) → InLaw form lines func → IsKept form lines func
 kept form lines func law =
@@ -198,9 +200,9 @@ each_kept form lines func law P f =
     let insts = instructions_of (made lines func).blocks in
     all_contained P insts (λ inst inside.
     f inst (All-contains (GoodInst form lines func) insts inst (good_insts form lines func law) inside)
-    (All-contains (IsTypedBesidesCalls (scope_made form lines func)) insts inst (unbroken_typed (stands_for form lines) k.unbroken k.number (made lines func) k.is_function) inside)
+    (All-contains (IsTypedBesidesCalls (scope_made form lines func)) insts inst (unbroken_typed (resolved form lines) k.unbroken k.number (made lines func) k.is_function) inside)
     (All-contains (λ (one : Instruction). one.op ≡ ops.Switch → Distinct (drop 1 one.operands)) insts inst
-    (unbroken_cases (stands_for form lines) k.unbroken k.number (made lines func) k.is_function) inside))
+    (unbroken_cases (resolved form lines) k.unbroken k.number (made lines func) k.is_function) inside))
 
 pub local_known : (form : Form) (lines : List Line) (func : Definition) → InLaw form lines func → LocalNamesAreKnown (made lines func)
 local_known form lines func law =
@@ -274,7 +276,7 @@ call_name n (Some result) answer read = All-cons (λ (one : Naming). IsName one.
 one_name : (n : ℕ) (name : List ℕ) (ty : TypeWord) → IsName name → All (λ (one : Naming). IsName one.name) (record { line = n; name = name; ty = ty } ∷ [])
 one_name n name ty read = All-cons (λ (one : Naming). IsName one.name) (record { line = n; name = name; ty = ty }) [] read (All-nil (λ (one : Naming). IsName one.name))
 
-result_name : (n : ℕ) (s : Statement) → SaysRead s → Rattle.module_laws.proofs.LawValues.is_cast_line s ≡ false → All (λ one. IsName one.name) (result_named n (gives s))
+result_name : (n : ℕ) (s : Statement) → SaysRead s → is_cast s ≡ false → All (λ one. IsName one.name) (result_named n (gives s))
 result_name n (binary result op width left right) read e = one_name n result (Int width) read.0
 result_name n (compare result pred ty left right) read e = one_name n result (Int 1) read.0
 result_name n (convert result op width value to) read e = one_name n result (Int to) read.0
@@ -341,7 +343,7 @@ pub values_named : (form : Form) (lines : List Line) (func : Definition) → InL
 values_named form lines func law P all =
     All-from_recursion (λ given. P (defs.definition_name given)) (defs.definitions_of (made lines func))
     (unmapped defs.definition_name P (defs.definitions_of (made lines func)) (recursion_from_All P (map defs.definition_name (defs.definitions_of (made lines func)))
-    (All-same P (map defs.definition_name (defs.definitions_of (made lines func))) (map (λ (one : Naming). one.name) (values_of func)) (names-are form lines func law)
+    (All-same P (map defs.definition_name (defs.definitions_of (made lines func))) (map (λ (one : Naming). one.name) (values_of func)) (names-are lines func)
     (All-map P (λ (one : Naming). one.name) (values_of func) all))))
 
 pub blocks_named : (lines : List Line) (func : Definition) (P : List ℕ → Type 0) → All (λ one. P one.name) (blocks_of func) → All (λ block. P block.name) (made lines func).blocks

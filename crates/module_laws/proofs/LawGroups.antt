@@ -31,7 +31,7 @@ use Rattle.line_tokens.specs.declared.words.Conversion.{Conversion}
 use Rattle.line_tokens.specs.declared.words.Conversion.TheVariants.{Trunc, Zext, Sext}
 use Rattle.line_parts.specs.Parts.{Val}
 use Rattle.line_parts.specs.Lists.{Given}
-use Rattle.ir_lines.specs.Statements.{Guarded, Line, Statement, binary, compare, convert, select, phi, scalar_step, layout_step, load, store, call, jump, branch, switch, ret_void, ret, unreachable, statepoint, gc_result, gc_relocate}
+use Rattle.ir_lines.specs.Statements.{Guarded, Line, Statement, binary, compare, convert, select, phi, scalar_step, layout_step, load, store, call, jump, branch, switch, ret_void, ret, unreachable, cast, statepoint, gc_result, gc_relocate}
 use Rattle.ir_lines.specs.Parts.{is_of_group, live_use, token_use, index_use}
 use Rattle.ir_lines.specs.Sections.{Definition}
 use Rattle.ir_lines.specs.Scope.{scope_of, head_named}
@@ -232,6 +232,7 @@ group_said known behind (switch width value default) e = refl
 group_said known behind ret_void e = refl
 group_said known behind (ret ty value) e = refl
 group_said known behind unreachable e = refl
+group_said known behind (cast result op from value to) e = refl
 group_said known behind (statepoint result made live) e = absurd (let bad : true ≡ false = e in cc)
 group_said known behind (gc_result result ty token) e = absurd (let bad : true ≡ false = e in cc)
 group_said known behind (gc_relocate result token base derived) e = absurd (let bad : true ≡ false = e in cc)

@@ -1,8 +1,8 @@
 -- What is known of each line of a function of a text without a fault of its own.
 use Rattle.std.proofs.Common.{◌≡◌, ◌∙◌, ℕ, ◌<◌, ◌^◌, ◌%◌, ◌-◌, true, false, ◌||◌, List, ◌++◌, map, length, get_or, refl, arith}
 use Rattle.std.specs.Prelude.{is_none, if◌then◌else◌}
-use Rattle.std.specs.List.{All, AllByRecursion, Contains, list_any}
-use Rattle.std.proofs.lemmas.List.Elements.{All-contains, Contains-get_or, recursion_from_All}
+use Rattle.std.specs.List.{All, Contains, list_any}
+use Rattle.std.proofs.lemmas.List.Elements.{All-contains, Contains-get_or}
 use Rattle.std.proofs.Common.{mod-lt}
 use Rattle.std.proofs.lemmas.Nat.{pow_pos}
 use Rattle.ir_ast.specs.Funcs.{Function}
@@ -14,7 +14,7 @@ use Rattle.line_parts.specs.declared.readings.TypeWord.{TypeWord}
 use Rattle.line_tokens.specs.declared.literals.Literal.{Literal}
 use Rattle.line_parts.specs.Parts.{Val}
 use Rattle.line_parts.specs.Parts as values
-use Rattle.ir_lines.specs.Statements.{Line, Statement, cast}
+use Rattle.ir_lines.specs.Statements.{Line, Statement}
 use Rattle.ir_lines.specs.Parts.{uses, is_of_group, values_named, targets, entry_labels, functions_named, layouts_named}
 use Rattle.ir_lines.specs.Sections.{Definition, definitions_of, values_of}
 use Rattle.ir_lines.specs.Scope.{Scope, scope_of, value_named, block_named, head_named, layout_named}
@@ -25,7 +25,7 @@ use Rattle.ir_resolve.specs.FaultSet.{HasNoResolvedFault, of_text}
 use Rattle.ir_lines.specs.Faults.UnknownName.{names_unknown}
 use Rattle.ir_lines.specs.Faults.PointerCast.{is_cast}
 use Rattle.module_laws.proofs.LawFacts.{or-left, or-right, body_clear}
-use Rattle.module_laws.proofs.LawValues.{is_cast_line, names_given, few_values}
+use Rattle.module_laws.proofs.LawValues.{names_given, few_values}
 use Rattle.module_laws.proofs.LawHeads.{SaysOf, says-defined}
 
 -- a function of faultless lines that were read
@@ -54,12 +54,8 @@ pub record LineFacts (form : Form) (scope : Scope) (s : Statement) : Type 0 wher
   pub functions : list_any (λ name. is_none (head_named scope name)) (functions_named s) ≡ false
   pub layouts : list_any (λ name. is_none (layout_named scope name)) (layouts_named s) ≡ false
   pub spelled : says_wrong form scope s ≡ false
-  pub no_cast : is_cast_line s ≡ false
+  pub no_cast : is_cast s ≡ false
   pub own : form ≡ Source → is_of_group s ≡ false
-
-cast-same : (s : Statement) → is_cast_line s ≡ is_cast s
-cast-same (cast result op from value to) = refl
-cast-same _ = refl
 
 pub line_facts : (form : Form) (lines : List Line) (func : Definition) → InLaw form lines func → (l : Line) → Contains func.body l
     → LineFacts form (scope_of lines func) l.says
@@ -81,25 +77,19 @@ line_facts form lines func law l inside =
       functions = or-right (vs || bs) fs u3;
       layouts = or-right (vs || bs || fs) ls unknown;
       spelled = or-right (list_any (λ used. is_outside used.1 used.0) (uses s)) (says_wrong form scope s) wrong;
-      no_cast = cast-same s ∙ body_clear lines (λ scope. is_cast) (λ line f. law.none line 16 (of_text (pointer_cast f))) func law.defined l inside;
+      no_cast = body_clear lines (λ scope. is_cast) (λ line f. law.none line 16 (of_text (pointer_cast f))) func law.defined l inside;
       own = λ is. All-contains (λ (one : Line). is_of_group one.says ≡ false) func.body l (own_lines form lines func law is).body inside;
     }
 
 pub all_lines : (P : Line → Type 0) (ls : List Line) → ((l : Line) → Contains ls l → P l) → All P ls
 all_lines P ls h = λ k d within. h (get_or ls k d) (Contains-get_or ls k d within)
 
-pub no_casts : (form : Form) (lines : List Line) (func : Definition) → InLaw form lines func → AllByRecursion (λ l. is_cast_line l.says ≡ false) func.body
-no_casts form lines func law =
-    recursion_from_All (λ (l : Line). is_cast_line l.says ≡ false) func.body
-    (all_lines (λ (l : Line). is_cast_line l.says ≡ false) func.body (λ l inside. (line_facts form lines func law l inside).no_cast))
-
 abbrev pub made : List Line → Definition → Function
 made lines func = function_of (known_of lines func) func
 
-pub names-are : (form : Form) (lines : List Line) (func : Definition) → InLaw form lines func
+pub names-are : (lines : List Line) (func : Definition)
     → map defs.definition_name (defs.definitions_of (made lines func)) ≡ map (λ one. one.name) (values_of func)
-names-are form lines func law =
-    names_given (known_of lines func) func (no_casts form lines func law)
+names-are lines func = names_given (known_of lines func) func
 
 pub few_numbers : (form : Form) (lines : List Line) (func : Definition) → InLaw form lines func → length (values_of func) < 2 ^ 25
 few_numbers form lines func law =

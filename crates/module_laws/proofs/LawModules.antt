@@ -107,7 +107,7 @@ names_once form lines read none = record {
       subst Distinct (sym (names_mapped (block_of (known_of lines func)) (λ (one : BasicBlock). one.name) (λ (one : BlockLines). one.name) (λ x. refl) (blocks_of func)))
       (blocks-distinct form lines none func law.defined));
   values = each_function form lines read none (λ func. Distinct (map defs.definition_name (defs.definitions_of func))) (λ func law.
-      subst Distinct (sym (names-are form lines func law)) (values-distinct form lines none func law.defined));
+      subst Distinct (sym (names-are lines func)) (values-distinct form lines none func law.defined));
 }
 
 pub names_free : (form : Form) (lines : List Line) → IsReadLines form lines → HasNoResolvedFault form lines → FunctionNamesAreFree (content form lines)

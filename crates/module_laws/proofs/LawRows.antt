@@ -31,10 +31,9 @@ use Rattle.ir_lines.specs.Modules.{Known, known_of, wrapped, function_of, instru
 use Rattle.ir_lines.specs.ReadLines.{SaysRead, is_relocate, relocates_first}
 use Rattle.ir_lines.specs.Faults.GroupShape.{Group, is_part}
 use Rattle.ir_lines.proofs.LawNames.{stands, number-is, contains_middle}
-use Rattle.ir_resolve.specs.Resolved.{uncast_line, resolved}
+use Rattle.ir_resolve.specs.Resolved.{resolved}
 use Rattle.ir_resolve.specs.FaultSet.{of_module}
-use Rattle.ir_resolve.proofs.Casts.{uncast_in, definitions-same}
-use Rattle.ir_resolve.proofs.Values.{bare, made_of, token_numbered}
+use Rattle.ir_resolve.proofs.Values.{made_of, token_numbered}
 use Rattle.ir_resolve.proofs.Fronts.{said_at, insts, front, insts-cons as insts_cons, insts_split, insts_said as insts_told}
 use Rattle.ir_resolve.proofs.Groups.{are_parts, point, GroupSaid, group_said}
 use Rattle.ir_resolve.proofs.Standing.{BodyStands}
@@ -235,7 +234,7 @@ record InPlace (lines : List Line) (func : Definition) : Type 0 where
 -- the group of a token that has a name
 group_lined : (lines : List Line) (func : Definition) → InPlace lines func → (before : List Line) (l : Line) (after : List Line) → func.body ≡ before ++ l ∷ after
     → (token : List ℕ) → is_none (value_named (scope_of lines func) token) ≡ false
-    → (group : ModuleGroup (made_of lines func) (number_in (bare lines func).values token) (length (front (bare lines func) before (l ∷ after))))
+    → (group : ModuleGroup (made_of lines func) (number_in (known_of lines func).values token) (length (front (known_of lines func) before (l ∷ after))))
     → GroupSaid lines func before (l ∷ after) token group
 group_lined lines func text before l after whole token known group =
     let few : length (values_of func) < 2 ^ 32 = (let f = few_numbers Rewritten lines func text.law in omega arith) in
@@ -243,16 +242,14 @@ group_lined lines func text before l after whole token known group =
 
 -- the shape of a part's instruction
 shaped : (lines : List Line) (func : Definition) → InPlace lines func → (before : List Line) (l : Line) (after : List Line) → func.body ≡ before ++ l ∷ after
-    → (inst : Instruction) → said_at (bare lines func) l after ≡ Some inst
-    → ShapeOf (made_of lines func) (length (front (bare lines func) before (l ∷ after))) inst inst.op
+    → (inst : Instruction) → said_at (known_of lines func) l after ≡ Some inst
+    → ShapeOf (made_of lines func) (length (front (known_of lines func) before (l ∷ after))) inst inst.op
 shaped lines func text before l after whole inst said =
-    let known = bare lines func in
+    let known = known_of lines func in
     let all = insts_split lines func before (l ∷ after) whole in
-    let uncast : Contains (definitions_of (map uncast_line lines)) (uncast_in func) =
-    subst (λ (ds : List Definition). Contains ds (uncast_in func)) (sym (definitions-same lines)) (contains_map uncast_in (definitions_of lines) func text.law.defined) in
-    let d = get_contained (definitions_of (map uncast_line lines)) (uncast_in func) uncast in
+    let d = get_contained (definitions_of lines) func text.law.defined in
     unbroken_shapes (resolved Rewritten lines) (λ line code fault. text.law.none line code (of_module fault)) d.0 (made_of lines func)
-    (get_map (λ (one : Definition). function_of (known_of (map uncast_line lines) one) one) (definitions_of (map uncast_line lines)) d.0 (uncast_in func) d.1) refl
+    (get_map (λ (one : Definition). function_of (known_of lines one) one) (definitions_of lines) d.0 func d.1) refl
     (length (front known before (l ∷ after))) inst
     (ap (λ (is : List Instruction). slice_get is (length (front known before (l ∷ after)))) all
     ∙ ap (λ (is : List Instruction). slice_get (front known before (l ∷ after) ++ is) (length (front known before (l ∷ after)))) (first_inst known l after inst said)
@@ -266,13 +263,13 @@ relocate_group : (lines : List Line) (func : Definition) → InPlace lines func 
     → Group func before token
 relocate_group lines func text before n result token base derived after whole known =
     let l : Line = record { number = n; says = gc_relocate result token base derived } in
-    let number = number_in (bare lines func).values token in
-    let shape : RelocateInShape (made_of lines func) (length (front (bare lines func) before (l ∷ after))) _ = shaped lines func text before l after whole _ refl in
+    let number = number_in (known_of lines func).values token in
+    let shape : RelocateInShape (made_of lines func) (length (front (known_of lines func) before (l ∷ after))) _ = shaped lines func text before l after whole _ refl in
     let given : operands.Value (record { 0 = number }) ∷ operands.Int (wrapped 32 base) ∷ operands.Int (wrapped 32 derived) ∷ []
     ≡ operands.Value shape.token ∷ operands.Int shape.base ∷ operands.Int shape.derived ∷ [] = shape.operands in
     let at : shape.token.0 ≡ number = cc in
     (group_lined lines func text before l after whole token known
-    (subst (λ (t : ℕ). ModuleGroup (made_of lines func) t (length (front (bare lines func) before (l ∷ after)))) at shape.group)).lined
+    (subst (λ (t : ℕ). ModuleGroup (made_of lines func) t (length (front (known_of lines func) before (l ∷ after)))) at shape.group)).lined
 
 -- a result stands directly behind its statepoint
 record ResultGroup (func : Definition) (before : List Line) (token : List ℕ) : Type 0 where
@@ -284,8 +281,8 @@ result_group : (lines : List Line) (func : Definition) → InPlace lines func �
     → ResultGroup func before token
 result_group lines func text before n result ty token after whole known =
     let l : Line = record { number = n; says = gc_result result ty token } in
-    let number = number_in (bare lines func).values token in
-    let shape : ResultInShape (made_of lines func) (length (front (bare lines func) before (l ∷ after))) _ = shaped lines func text before l after whole _ refl in
+    let number = number_in (known_of lines func).values token in
+    let shape : ResultInShape (made_of lines func) (length (front (known_of lines func) before (l ∷ after))) _ = shaped lines func text before l after whole _ refl in
     let given : operands.Value (record { 0 = number }) ∷ [] ≡ operands.Value shape.token ∷ [] = shape.operands in
     let at : shape.token.0 ≡ number = cc in
     with_group l whole shape.token.0 at shape.group shape.directly
@@ -294,13 +291,13 @@ result_group lines func text before n result ty token after whole known =
     empty [] e = refl
     empty (x ∷ xs) e = absurd (omega arith)
 
-    with_group : (l : Line) → func.body ≡ before ++ l ∷ after → (t : ℕ) → t ≡ number_in (bare lines func).values token
-        → (g : ModuleGroup (made_of lines func) t (length (front (bare lines func) before (l ∷ after))))
-        → g.head + 1 ≡ length (front (bare lines func) before (l ∷ after)) → ResultGroup func before token
+    with_group : (l : Line) → func.body ≡ before ++ l ∷ after → (t : ℕ) → t ≡ number_in (known_of lines func).values token
+        → (g : ModuleGroup (made_of lines func) t (length (front (known_of lines func) before (l ∷ after))))
+        → g.head + 1 ≡ length (front (known_of lines func) before (l ∷ after)) → ResultGroup func before token
     with_group l split t at g directly =
-        let P : (number : ℕ) → Type 0 = λ number. (h : ModuleGroup (made_of lines func) number (length (front (bare lines func) before (l ∷ after))))
-        × (h.head + 1 ≡ length (front (bare lines func) before (l ∷ after))) in
-        let moved : P (number_in (bare lines func).values token) = subst P at (g, directly) in
+        let P : (number : ℕ) → Type 0 = λ number. (h : ModuleGroup (made_of lines func) number (length (front (known_of lines func) before (l ∷ after))))
+        × (h.head + 1 ≡ length (front (known_of lines func) before (l ∷ after))) in
+        let moved : P (number_in (known_of lines func).values token) = subst P at (g, directly) in
         let said = group_lined lines func text before l after split token known moved.0 in
         let place = said.place_is in
         let next = moved.1 in

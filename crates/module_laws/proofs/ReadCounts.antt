@@ -1,12 +1,12 @@
 -- Lines that stand in their places and were counted: each body has a line, its cases stand behind their `switch`,
 -- and no count passes its limit.
-use Rattle.std.proofs.Common.{◌≡◌, ◌∙◌, ℕ, ◌<◌, ◌≤◌, ◌+◌, refl, sym, ap, subst, Bool, true, false, not, cond, ◌&&◌, List, [], ◌∷◌, ◌++◌, length, map, length-append, Option, Some, None, arith}
-use Rattle.std.specs.Prelude.{take_while, nat_le}
+use Rattle.std.proofs.Common.{◌≡◌, ◌∙◌, ℕ, ◌<◌, ◌≤◌, ◌+◌, refl, sym, ap, subst, Bool, true, false, not, cond, ◌&&◌, List, [], ◌∷◌, ◌++◌, length, length-append, Option, Some, None, arith}
+use Rattle.std.specs.Prelude.{take_while, nat_le, slice_get}
 use Rattle.std.specs.List.{All, AllByRecursion, sum_by}
 use Rattle.std.proofs.lemmas.Bool.{leb-true}
 use Rattle.std.proofs.lemmas.List.Sums.{take_while-cons, sum_by-cons}
 use Rattle.std.proofs.lemmas.List.Elements.{All-nil, All-cons}
-use Rattle.ir_ast.specs.declared.modules.Form.{Form}
+use Rattle.ir_ast.specs.declared.modules.Form.{Form as TextForm}
 use Rattle.ir_ast.specs.declared.modules.Form.TheVariants.{Source, Rewritten}
 use Rattle.ir_reader.specs.declared.states.Place.{Place}
 use Rattle.ir_reader.specs.declared.states.Place.TheVariants as places
@@ -14,19 +14,22 @@ use Rattle.ir_reader.specs.declared.states.State.{State}
 use Rattle.ir_reader.specs.declared.states.Counts.{Counts}
 use Rattle.ir_reader.specs.declared.states.Counted.{Counted}
 use Rattle.ir_reader.specs.declared.states.Counted.TheVariants as kinds
-use Rattle.line_forms.specs.declared.readings.Reading.{Reading}
-use Rattle.line_forms.specs.declared.readings.Reading.TheVariants as readings
-use Rattle.ir_reader.specs.declared.raw.NumberedReading.{NumberedReading}
-use Rattle.ir_reader.specs.Limits.{said_counts_as, counted, counted_in, counts_fit}
-use Rattle.line_forms.specs.Seen.{seen}
-use Rattle.ir_reader.specs.Raws.{seen_numbered}
-use Rattle.ir_lines.specs.Statements.{Statement, Line, layout, declare, define, close, label, switch_case, switch_end, gc_relocate}
+use Rattle.sp_text.specs.Tokens.{tokens}
+use Rattle.line_forms.specs.declared.forms.Form.{Form}
+use Rattle.line_forms.specs.declared.forms.Form.TheVariants as forms
+use Rattle.line_forms.specs.Forms.{slots, is_dropped_form}
+use Rattle.line_forms.specs.Slots.{Item}
+use Rattle.ir_reader.specs.Limits.{counts_as, said_counts_as, counted, counted_in, counts_fit}
+use Rattle.ir_reader.specs.Text.{Numbered}
+use Rattle.line_forms.specs.Seen.{Said}
+use Rattle.line_forms.specs.Seen as says
+use Rattle.ir_lines.specs.Statements.{Statement, Line, of_form, stated, lines_of, layout, declare, define, close, label, switch_case, switch_end, gc_relocate}
 use Rattle.ir_lines.specs.Sections.{Definition, layouts_of, layout_said, definitions_of, definition_said, is_case, is_close}
-use Rattle.ir_lines.specs.Views.{said, seen_line}
 use Rattle.ir_lines.specs.TextLines.{place_behind, Stand}
 use Rattle.ir_lines.specs.Parts.{is_of_group}
 use Rattle.ir_lines.specs.ReadLines.{is_instruction, is_relocate, relocates_first, RelocatesAreFew, instruction_count, opens_case, CasesStand}
-use Rattle.module_laws.proofs.Runs.{Runs}
+use Rattle.module_laws.proofs.Runs.{IsKept, IsSpelled, Runs, both}
+use Rattle.module_laws.proofs.Formed.{Parts, items_of, parse_told}
 use Rattle.module_build.proofs.Bodies.{Inside, Body, inside_function}
 
 -- ---- places
@@ -113,25 +116,31 @@ kind_said (gc_relocate result token base derived) = kinds.Relocate
 kind_said s = cond (is_instruction s) kinds.Instruction kinds.Nothing
 
 -- in a text of this form
-abbrev pub kind_in : Form → Statement → Counted
+abbrev pub kind_in : TextForm → Statement → Counted
 kind_in form s = counted_in form (kind_said s)
 
-same_kind : (r : Reading) → said_counts_as (seen r) ≡ kind_said (said r)
-same_kind (readings.Label n) = refl
-same_kind r = refl
+same_kind : (form : Form) → is_dropped_form form ≡ false → (a : Parts (slots form)) → counts_as form (items_of (slots form) a) ≡ kind_said (of_form form (slice_get (items_of (slots form) a)))
+same_kind (forms.Dropped which) kept a = absurd (let bad : true ≡ false = kept in cc)
+same_kind form kept a = refl
+
+kind_is : (what : Said) → IsKept what → IsSpelled what → said_counts_as what ≡ kind_said (stated what)
+kind_is (says.label name) kept spelled = refl
+kind_is (says.line l) kept spelled =
+    let parts = parse_told (slots l.form) (tokens spelled.0) l.items [] spelled.1 in
+    subst (λ (whole : List Item). counts_as l.form whole ≡ kind_said (of_form l.form (slice_get whole))) parts.1 (same_kind l.form kept parts.0)
 
 -- the lines were counted from here on, within the limits
-abbrev pub Run : Form → Counts → List Line → Type 0
+abbrev pub Run : TextForm → Counts → List Line → Type 0
 Run form c [] = counts_fit c ≡ true
 Run form c (l ∷ ls) = (counts_fit c ≡ true) × Run form (counted (kind_in form l.says) c) ls
 
-pub runs-counted : (rs : List NumberedReading) (s : State) → counts_fit s.counts ≡ true → Runs s (map seen_numbered rs) → Run s.form s.counts (map seen_line rs)
+pub runs-counted : (xs : List Numbered) (s : State) → counts_fit s.counts ≡ true → Runs s xs → Run s.form s.counts (lines_of xs)
 runs-counted [] s fits run = fits
-runs-counted (r ∷ rs) s fits run = (
+runs-counted (x ∷ xs) s fits run = (
   fits,
-  subst (λ (c : Counts). Run s.form c (map seen_line rs))
-      (run.step.counts ∙ ap (λ (k : Counted). counted (counted_in s.form k) s.counts) (same_kind r.reading))
-      (subst (λ (form : Form). Run form run.next.counts (map seen_line rs)) run.step.form (runs-counted rs run.next (run.step.few fits) run.more)),
+  subst (λ (c : Counts). Run s.form c (lines_of xs))
+      (run.step.counts ∙ ap (λ (k : Counted). counted (counted_in s.form k) s.counts) (kind_is x.said run.step.kept run.step.spelled))
+      (subst (λ (form : TextForm). Run form run.next.counts (lines_of xs)) run.step.form (runs-counted xs run.next (run.step.few fits) run.more)),
 )
 
 record Fit (c : Counts) : Type 0 where
@@ -154,17 +163,13 @@ fit-is c e =
       instructions = leb-true c.instructions 65536 a.1;
       relocates = leb-true c.relocates 16384 whole.1;
     }
-  where
-    both : (x y : Bool) → (x && y) ≡ true → (x ≡ true) × (y ≡ true)
-    both true y e = (refl, e)
-    both false y e = absurd (let bad : false ≡ true = e in cc)
 
 -- what one line adds
 record Adds (c next : Counts) (s : Statement) : Type 0 where
   layouts : next.layouts ≡ c.layouts + length (layout_said 0 s)
   functions : next.functions ≡ c.functions + length (definition_said 0 s [])
 
-adds : (form : Form) (c : Counts) (s : Statement) → Adds c (counted (kind_in form s) c) s
+adds : (form : TextForm) (c : Counts) (s : Statement) → Adds c (counted (kind_in form s) c) s
 adds Source c (layout name fields) = record { layouts = omega arith; functions = omega arith }
 adds Source c (define answer name arguments strategy) = record { layouts = omega arith; functions = omega arith }
 adds Source c s = record { layouts = omega arith; functions = omega arith }
@@ -190,14 +195,14 @@ same_definitions n s ls = refl
 count-cons : (l : Line) (ls : List Line) → instruction_count (l ∷ ls) ≡ cond (is_instruction l.says) 1 0 + instruction_count ls
 count-cons l ls = sum_by-cons (λ (one : Line). cond (is_instruction one.says) 1 0) l ls
 
-pub layouts_total : (form : Form) (ls : List Line) (c : Counts) → Run form c ls → c.layouts + length (layouts_of ls) ≤ 4096
+pub layouts_total : (form : TextForm) (ls : List Line) (c : Counts) → Run form c ls → c.layouts + length (layouts_of ls) ≤ 4096
 layouts_total form [] c run = let f = (fit-is c run).layouts in omega arith
 layouts_total form (l ∷ ls) c run =
     let more = layouts_total form ls (counted (kind_in form l.says) c) run.1 in
     let a = (adds form c l.says).layouts in
     omega (arith, length-append (layout_said l.number l.says) (layouts_of ls), same_layouts l.number l.says)
 
-pub functions_total : (form : Form) (ls : List Line) (c : Counts) → Run form c ls → c.functions + length (definitions_of ls) ≤ 4096
+pub functions_total : (form : TextForm) (ls : List Line) (c : Counts) → Run form c ls → c.functions + length (definitions_of ls) ≤ 4096
 functions_total form [] c run = let f = (fit-is c run).functions in omega arith
 functions_total form (l ∷ ls) c run =
     let more = functions_total form ls (counted (kind_in form l.says) c) run.1 in
@@ -251,7 +256,7 @@ values_in (l ∷ ls) place c in' body own run =
     let a = values_add c l.says plain own.0 in
     omega (arith, count-cons l ls)
 
-run-while : (form : Form) (p : Line → Bool) (ls : List Line) (c : Counts) → Run form c ls → Run form c (take_while p ls)
+run-while : (form : TextForm) (p : Line → Bool) (ls : List Line) (c : Counts) → Run form c ls → Run form c (take_while p ls)
 run-while form p [] c run = run
 run-while form p (l ∷ ls) c run = by (p l) refl (run-while form p ls (counted (kind_in form l.says) c) run.1)
   where
@@ -262,16 +267,16 @@ run-while form p (l ∷ ls) c run = by (p l) refl (run-while form p ls (counted 
 -- ---- each function
 
 -- its lines were counted, behind its head
-pub record IsCounted (form : Form) (func : Definition) : Type 0 where
+pub record IsCounted (form : TextForm) (func : Definition) : Type 0 where
   pub start : Counts
   pub values : start.values ≡ length func.arguments
   pub run : Run form start func.body
 
-function_counted : (form : Form) (n : ℕ) (c : Counts) → (counted (counted_in form (kinds.Function n)) c).values ≡ n
+function_counted : (form : TextForm) (n : ℕ) (c : Counts) → (counted (counted_in form (kinds.Function n)) c).values ≡ n
 function_counted Source n c = refl
 function_counted Rewritten n c = refl
 
-one_counted : (form : Form) (n : ℕ) (s : Statement) (ls : List Line) (c : Counts) → Run form (counted (kind_in form s) c) ls → All (IsCounted form) (definitions_of ls)
+one_counted : (form : TextForm) (n : ℕ) (s : Statement) (ls : List Line) (c : Counts) → Run form (counted (kind_in form s) c) ls → All (IsCounted form) (definitions_of ls)
     → All (IsCounted form) (definition_said n s ls ++ definitions_of ls)
 one_counted form n (define answer name arguments strategy) ls c run ih =
     let start = counted (counted_in form (kinds.Function (length arguments))) c in
@@ -289,7 +294,7 @@ one_counted form n (define answer name arguments strategy) ls c run ih =
     }) ih
 one_counted form n s ls c run ih = ih
 
-pub each_counted : (form : Form) (ls : List Line) (c : Counts) → Run form c ls → All (IsCounted form) (definitions_of ls)
+pub each_counted : (form : TextForm) (ls : List Line) (c : Counts) → Run form c ls → All (IsCounted form) (definitions_of ls)
 each_counted form [] c run = All-nil (IsCounted form)
 each_counted form (l ∷ ls) c run = one_counted form l.number l.says ls c run.1 (each_counted form ls (counted (kind_in form l.says) c) run.1)
 
@@ -303,12 +308,12 @@ few_values_in func body own counted =
 
 -- ---- relocates in a row
 
-relocate_counted : (form : Form) (s : Statement) (c : Counts) → is_relocate s ≡ true → (counted (kind_in form s) c).relocates ≡ c.relocates + 1
+relocate_counted : (form : TextForm) (s : Statement) (c : Counts) → is_relocate s ≡ true → (counted (kind_in form s) c).relocates ≡ c.relocates + 1
 relocate_counted Source (gc_relocate result token base derived) c e = refl
 relocate_counted Rewritten (gc_relocate result token base derived) c e = refl
 relocate_counted form s c e = absurd (let bad : false ≡ true = e in cc)
 
-relocates_here : (form : Form) (ls : List Line) (c : Counts) → Run form c ls → c.relocates + relocates_first ls ≤ 16384
+relocates_here : (form : TextForm) (ls : List Line) (c : Counts) → Run form c ls → c.relocates + relocates_first ls ≤ 16384
 relocates_here form [] c run = let f = (fit-is c run).relocates in omega arith
 relocates_here form (l ∷ ls) c run = by (is_relocate l.says) refl (relocates_here form ls (counted (kind_in form l.says) c) run.1)
   where
@@ -325,11 +330,11 @@ relocates_here form (l ∷ ls) c run = by (is_relocate l.says) refl (relocates_h
         let f = (fit-is c run.0).relocates in
         omega (arith, is, f)
 
-run-behind : (form : Form) (before after : List Line) (c : Counts) → Run form c (before ++ after) → (d : Counts) × Run form d after
+run-behind : (form : TextForm) (before after : List Line) (c : Counts) → Run form c (before ++ after) → (d : Counts) × Run form d after
 run-behind form [] after c run = (c, run)
 run-behind form (l ∷ before) after c run = run-behind form before after (counted (kind_in form l.says) c) run.1
 
-pub relocates_few : (form : Form) (ls : List Line) (c : Counts) → Run form c ls → RelocatesAreFew ls
+pub relocates_few : (form : TextForm) (ls : List Line) (c : Counts) → Run form c ls → RelocatesAreFew ls
 relocates_few form ls c run = λ before after e.
     let behind = run-behind form before after c (subst (Run form c) e run) in
     let few = relocates_here form after behind.0 behind.1 in

@@ -1,38 +1,34 @@
--- The lines of a text that was read are as a reader gives them.
-use Rattle.std.proofs.Common.{◌≡◌, ◌+◌, ◌≤◌, refl, Bool, true, false, not, List, [], ◌∷◌, map, length, arith}
+-- The lines of a text that has readings are as a reader gives them.
+use Rattle.std.proofs.Common.{ℕ, Ok, ◌≡◌, ◌+◌, ◌≤◌, refl, Bool, true, false, not, List, [], ◌∷◌, length, arith}
 use Rattle.std.specs.List.{All, AllByRecursion, Contains, sum_by}
 use Rattle.std.proofs.lemmas.List.{length-map}
 use Rattle.std.proofs.lemmas.List.Sums.{count_by-le-length}
 use Rattle.std.proofs.lemmas.List.Elements.{All-contains, All-from_recursion, recursion_from_All}
 use Rattle.list_laws.proofs.Contents.{all_contained}
 use Rattle.ir_reader.specs.declared.states.Place.TheVariants as places
-use Rattle.ir_reader.specs.declared.raw.NumberedReading.{NumberedReading}
-use Rattle.ir_reader.specs.Raws.{Readings, IsRead}
-use Rattle.ir_reader.specs.Text.{opening}
+use Rattle.ir_reader.specs.Text.{Numbered, opening, readings_in}
+use Rattle.ir_reader.specs.declared.states.State.{State}
 use Rattle.ir_reader.specs.declared.states.Counts.{Counts}
 use Rattle.ir_ast.specs.declared.modules.Form.{Form}
 use Rattle.ir_ast.specs.declared.modules.Form.TheVariants.{Source, Rewritten}
-use Rattle.ir_lines.specs.Statements.{Line}
+use Rattle.ir_lines.specs.Statements.{Line, lines_of}
 use Rattle.ir_lines.specs.Parts.{is_of_group}
 use Rattle.ir_lines.specs.Sections.{Definition, definitions_of, blocks_of}
 use Rattle.ir_lines.specs.Modules.{known_of, block_of}
-use Rattle.ir_lines.specs.Views.{seen_line, seen_lines}
-use Rattle.ir_lines.specs.TextLines.{Stand, statement_fits, is_formed, stands_in}
+use Rattle.ir_lines.specs.TextLines.{Stand, stands_in}
 use Rattle.ir_lines.specs.ReadLines.{IsReadFunction, IsReadLines, SaysRead, is_instruction, instruction_count}
 use Rattle.module_build.specs.Placed.{IsPlacedFunction, IsPlaced}
 use Rattle.module_build.proofs.Bodies.{Body}
 use Rattle.module_laws.proofs.LawHeads.{SaysOf, says-defined}
 use Rattle.module_build.proofs.Placing.{IsPlacedBody, definitions-placed, read-placed}
-use Rattle.module_laws.proofs.ReadTexts.{read-runs, read-lines}
-use Rattle.module_laws.proofs.ReadNames.{runs_names}
-use Rattle.module_laws.proofs.ReadTypes.{SaysNames, calls_void, said_read}
+use Rattle.module_laws.proofs.Runs.{Runs}
+use Rattle.module_laws.proofs.ReadTexts.{text-runs, text-lines}
+use Rattle.module_laws.proofs.ReadTypes.{said_read}
 use Rattle.module_laws.proofs.ReadCounts.{Run, NoGroups, IsCounted, runs-counted, layouts_total, functions_total, total_all, instructions_total, few_values_in, each_counted, relocates_few, cases_stand, has_line}
 
-all_read : (rs : List NumberedReading) → AllByRecursion (λ l. is_formed l.says ≡ true) (map seen_line rs) → AllByRecursion (λ l. statement_fits l.says ≡ true) (map seen_line rs)
-    → AllByRecursion (λ l. SaysNames l.says) (map seen_line rs) → AllByRecursion (λ l. SaysRead l.says) (map seen_line rs)
-all_read [] formed fit names = tt
-all_read (r ∷ rs) formed fit names =
-    (said_read (seen_line r).says formed.0 fit.0 (calls_void r.reading) names.0, all_read rs formed.1 fit.1 names.1)
+all_read : (xs : List Numbered) (s : State) → Runs s xs → AllByRecursion (λ l. SaysRead l.says) (lines_of xs)
+all_read [] s run = tt
+all_read (x ∷ xs) s run = (said_read x.said run.step.kept run.step.spelled run.step.fits, all_read xs run.next run.more)
 
 no_groups : (form : Form) (ls : List Line) → form ≡ Source → AllByRecursion (λ l. stands_in form l.says ≡ true) ls → NoGroups ls
 no_groups Source [] is own = tt
@@ -80,25 +76,22 @@ function_read form lines own built placed counted func inside =
       few_blocks = omega (arith, b, length-map (blocks_of func) (block_of (known_of lines func)));
     }
 
-pub read_law : (r : Readings) → IsRead r → IsReadLines r.form (seen_lines r.lines)
-read_law r read =
-    let lines = seen_lines r.lines in
-    let text = read-lines r read in
-    let run = read-runs r read in
-    let counts = runs-counted r.lines (opening r.form) refl run in
-    let placed = definitions-placed lines places.Top text.placed text.fit text.few in
-    let built = read-placed r.form lines text in
-    let own : r.form ≡ Source → NoGroups lines = λ is. no_groups r.form lines is (recursion_from_All (λ (l : Line). stands_in r.form l.says ≡ true) lines text.own) in
+pub read_law : (form : Form) (text : List ℕ) (xs : List Numbered) → length text ≤ 16777216 → readings_in form text ≡ Ok xs → IsReadLines form (lines_of xs)
+read_law form text xs small read =
+    let lines = lines_of xs in
+    let text_lines = text-lines form text xs small read in
+    let run = text-runs form text xs read in
+    let counts = runs-counted xs (opening form) refl run in
+    let placed = definitions-placed lines places.Top text_lines.placed text_lines.fit text_lines.few in
+    let built = read-placed form lines text_lines in
+    let own : form ≡ Source → NoGroups lines = λ is. no_groups form lines is (recursion_from_All (λ (l : Line). stands_in form l.says ≡ true) lines text_lines.own) in
     record {
-      says = All-from_recursion (λ (l : Line). SaysRead l.says) lines (all_read r.lines
-          (recursion_from_All (λ (l : Line). is_formed l.says ≡ true) lines text.formed)
-          (recursion_from_All (λ (l : Line). statement_fits l.says ≡ true) lines text.fit)
-          (runs_names r.lines (opening r.form) run));
+      says = All-from_recursion (λ (l : Line). SaysRead l.says) lines (all_read xs (opening form) run);
       own = λ is. All-from_recursion (λ (l : Line). is_of_group l.says ≡ false) lines (own is);
-      functions = all_contained (IsReadFunction r.form) (definitions_of lines)
-          (function_read r.form lines own built placed (each_counted r.form lines (opening r.form).counts counts));
-      few_layouts = (let t = layouts_total r.form lines (opening r.form).counts counts in omega arith);
-      few_functions = (let t = functions_total r.form lines (opening r.form).counts counts in omega arith);
-      few_instructions = instructions_few r.form lines (opening r.form).counts own text.placed counts;
-      few_lines = text.few;
+      functions = all_contained (IsReadFunction form) (definitions_of lines)
+          (function_read form lines own built placed (each_counted form lines (opening form).counts counts));
+      few_layouts = (let t = layouts_total form lines (opening form).counts counts in omega arith);
+      few_functions = (let t = functions_total form lines (opening form).counts counts in omega arith);
+      few_instructions = instructions_few form lines (opening form).counts own text_lines.placed counts;
+      few_lines = text_lines.few;
     }

@@ -1,26 +1,28 @@
--- What a line of a text that was read says, by its limits, its form and its names.
-use Rattle.std.proofs.Common.{◌≡◌, ℕ, refl, Bool, true, false, ◌&&◌, List, [], ◌∷◌, length, Option, Some, None}
-use Rattle.std.specs.Prelude.{nat_le, ⊤}
-use Rattle.std.specs.List.{All, AllByRecursion, list_all}
+-- What a line of a text says, by what stands at its slots, its limits and its names.
+use Rattle.std.proofs.Common.{◌≡◌, ℕ, refl, subst, true, false, ◌&&◌, List, [], ◌∷◌, length, Some}
+use Rattle.std.specs.Prelude.{nat_le, slice_get}
+use Rattle.std.specs.List.{AllByRecursion, list_all}
 use Rattle.std.proofs.lemmas.Bool.{leb-true}
-use Rattle.std.proofs.lemmas.List.Elements.{All-from_recursion, recursion_from_All}
+use Rattle.std.proofs.lemmas.List.Elements.{All-from_recursion}
+use Rattle.sp_text.specs.Bytes.{after_blanks}
+use Rattle.sp_text.specs.Tokens.{tokens}
 use Rattle.ir_ast.specs.Widths.{IsWidth}
-use Rattle.ir_cfg.specs.Limits.{IsName}
 use Rattle.line_parts.specs.declared.readings.TypeWord.{TypeWord}
 use Rattle.line_parts.specs.declared.readings.TypeWord.TheVariants.{Void, Int, Managed, Plain}
-use Rattle.line_forms.specs.declared.readings.Reading.{Reading}
-use Rattle.line_forms.specs.declared.readings.Reading.TheVariants as readings
-use Rattle.line_parts.specs.Parts.{Val, is_value_type, is_answer_type}
-use Rattle.line_parts.specs.Lists.{Named, Given, given, function, is_argument_type, is_task_start}
-use Rattle.ir_reader.specs.Limits.{width_fits, type_fits, value_fits, place_fits, argument_fits, given_fits, entry_value_fits, name_fits, literal_fits, live_fits}
-use Rattle.ir_lines.specs.Statements.{Guarded, Statement, layout, define, label, binary, compare, convert, select, phi, scalar_step, layout_step, load, store, call, switch, switch_case, ret, statepoint, gc_result, gc_relocate}
-use Rattle.ir_lines.specs.TextLines.{statement_fits, is_formed, given_is_formed, call_is_formed}
-use Rattle.ir_lines.specs.Views.{said}
-use Rattle.ir_lines.specs.ReadLines.{IsValueType, IsAnswerType, IsNameIfAny, IsReadArgument, IsReadPassed, IsReadStatepoint, SaysRead}
-
-both : (x y : Bool) → (x && y) ≡ true → (x ≡ true) × (y ≡ true)
-both true y e = (refl, e)
-both false y e = absurd (let bad : false ≡ true = e in cc)
+use Rattle.line_parts.specs.Parts.{is_value_type, is_answer_type}
+use Rattle.line_parts.specs.Lists.{Named, Given, given, function, is_argument_type}
+use Rattle.line_forms.specs.declared.forms.Form.{Form}
+use Rattle.line_forms.specs.declared.forms.Form.TheVariants as forms
+use Rattle.line_forms.specs.Forms.{slots, is_dropped_form}
+use Rattle.line_forms.specs.Slots.{Item, parse}
+use Rattle.line_forms.specs.Seen.{Said, label, line}
+use Rattle.line_forms.proofs.FamilyLines.{fit_parts}
+use Rattle.ir_reader.specs.Limits.{width_fits, type_fits, value_fits, argument_fits, given_fits, name_fits, literal_fits, live_fits, item_fits, said_fits}
+use Rattle.ir_lines.specs.Statements.{of_form, stated}
+use Rattle.ir_lines.specs.ReadLines.{IsValueType, IsAnswerType, IsNameIfAny, IsReadArgument, IsReadPassed, SaysRead}
+use Rattle.module_laws.proofs.Runs.{IsSpelled, IsKept, both}
+use Rattle.module_laws.proofs.Formed.{Parts, items_of, parse_told, passes}
+use Rattle.module_laws.proofs.ReadNames.{result_named, layout_named, head_named, label_name}
 
 width_is : (width : ℕ) → width_fits width ≡ true → IsWidth width
 width_is width e = let b = both (nat_le 1 width) (nat_le width 64) e in (leb-true 1 width b.0, leb-true width 64 b.1)
@@ -43,42 +45,6 @@ argument_type Managed e = refl
 argument_type Void e = absurd (let bad : false ≡ true = e in cc)
 argument_type Plain e = absurd (let bad : false ≡ true = e in cc)
 
--- the names that a line spells are names
-abbrev pub NameGiven : Option (List ℕ) → Type 0
-NameGiven None = ⊤
-NameGiven (Some name) = IsName name
-
-abbrev pub SaysNames : Statement → Type 0
-SaysNames (layout name fields) = IsName name
-SaysNames (define answer name arguments strategy) = IsName name × All (λ one. IsNameIfAny one.name) arguments
-SaysNames (label name) = IsName name
-SaysNames (binary result op width left right) = IsName result
-SaysNames (compare result predicate ty left right) = IsName result
-SaysNames (convert result op width value to) = IsName result
-SaysNames (select result condition left_ty left right_ty right) = IsName result
-SaysNames (phi result ty entries) = IsName result
-SaysNames (scalar_step result element address width index) = IsName result
-SaysNames (layout_step result named address width index place) = IsName result
-SaysNames (load result ty address) = IsName result
-SaysNames (call result answer callee passed) = NameGiven result
-SaysNames (statepoint result made live) = IsName result
-SaysNames (gc_result result ty token) = IsName result
-SaysNames (gc_relocate result token base derived) = IsName result
-SaysNames _ = ⊤
-
--- a call without a result answers nothing
-abbrev pub AnswersNothing : Option (List ℕ) → TypeWord → Type 0
-AnswersNothing None answer = answer ≡ Void
-AnswersNothing (Some result) answer = ⊤
-
-abbrev pub CallsVoid : Statement → Type 0
-CallsVoid (call result answer callee passed) = AnswersNothing result answer
-CallsVoid _ = ⊤
-
-pub calls_void : (r : Reading) → CallsVoid (said r)
-calls_void (readings.VoidCall callee passed) = refl
-calls_void r = tt
-
 arguments_read : (arguments : List Named) → list_all (λ one. is_argument_type false one.ty) arguments ≡ true → list_all argument_fits arguments ≡ true
     → AllByRecursion (λ one. IsNameIfAny one.name) arguments → AllByRecursion IsReadArgument arguments
 arguments_read [] e f names = tt
@@ -87,83 +53,94 @@ arguments_read (one ∷ more) e f names =
     let b = both (argument_fits one) (list_all argument_fits more) f in
     ((value_type one.ty (argument_type one.ty a.0) b.0, names.0), arguments_read more a.1 b.1 names.1)
 
-given_read : (callee : List ℕ) (one : Given) → given_is_formed callee one ≡ true → given_fits one ≡ true → IsReadPassed one
-given_read callee (given ty v) e f = value_type ty e (both (type_fits ty) (value_fits v) f).0
-given_read callee (function name) e f = tt
+given_read : (one : Given) → passes one ≡ true → given_fits one ≡ true → IsReadPassed one
+given_read (given ty v) e f = value_type ty e (both (type_fits ty) (value_fits v) f).0
+given_read (function name) e f = tt
 
-passed_read : (callee : List ℕ) (passed : List Given) → list_all (given_is_formed callee) passed ≡ true → list_all given_fits passed ≡ true → AllByRecursion IsReadPassed passed
-passed_read callee [] e f = tt
-passed_read callee (one ∷ more) e f =
-    let a = both (given_is_formed callee one) (list_all (given_is_formed callee) more) e in
+passed_read : (passed : List Given) → list_all passes passed ≡ true → list_all given_fits passed ≡ true → AllByRecursion IsReadPassed passed
+passed_read [] e f = tt
+passed_read (one ∷ more) e f =
+    let a = both (passes one) (list_all passes more) e in
     let b = both (given_fits one) (list_all given_fits more) f in
-    (given_read callee one a.0 b.0, passed_read callee more a.1 b.1)
+    (given_read one a.0 b.0, passed_read more a.1 b.1)
 
-statepoint_read : (result : List ℕ) (made : Guarded) (live : List Val) → is_formed (statepoint result made live) ≡ true → statement_fits (statepoint result made live) ≡ true → IsName result
-    → IsReadStatepoint result made live
-statepoint_read result made live e f name =
-    let given = list_all (given_is_formed made.callee) made.passed in
-    let taken = list_all (is_argument_type (is_task_start made.callee)) made.signature.parameters in
-    let a = both (is_answer_type made.signature.answer) (taken && given) e in
-    let b = both taken given a.1 in
-    let passes = list_all given_fits made.passed in
-    let c = both (literal_fits made.id) (type_fits made.signature.answer && (list_all type_fits made.signature.parameters && (literal_fits made.count && (passes && live_fits live)))) f in
-    let d = both (type_fits made.signature.answer) (list_all type_fits made.signature.parameters && (literal_fits made.count && (passes && live_fits live))) c.1 in
-    let g = both (list_all type_fits made.signature.parameters) (literal_fits made.count && (passes && live_fits live)) d.1 in
-    let h = both (literal_fits made.count) (passes && live_fits live) g.1 in
-    let i = both passes (live_fits live) h.1 in
-    let k = both (nat_le (length live) 16384) (list_all value_fits live) i.1 in
+-- what stands at the slots of a form, within the limits
+says_read : (form : Form) → is_dropped_form form ≡ false → (bytes : List ℕ) (a : Parts (slots form)) → parse (slots form) (tokens bytes) ≡ Some (items_of (slots form) a, [])
+    → list_all item_fits (items_of (slots form) a) ≡ true → SaysRead (of_form form (slice_get (items_of (slots form) a)))
+says_read (forms.Dropped which) kept bytes a e f = absurd (let bad : true ≡ false = kept in cc)
+says_read forms.Layout kept bytes a e f =
+    let b = both (name_fits a.0) _ f in
+    let c = both (nat_le (length a.1.0) 64 && list_all type_fits a.1.0) _ b.1 in
+    (layout_named _ bytes a.0 _ [] e, leb-true (length a.0) 4096 b.0, leb-true (length a.1.0) 64 (both (nat_le (length a.1.0) 64) (list_all type_fits a.1.0) c.0).0)
+says_read forms.Define kept bytes a e f =
+    let n = a.1.0.x.0 in
+    let arguments = a.1.0.x.1 in
+    let b = both (type_fits a.0.x) _ f in
+    let c = both (name_fits n && nat_le (length arguments) 64 && list_all argument_fits arguments) _ b.1 in
+    let d = both (name_fits n && nat_le (length arguments) 64) (list_all argument_fits arguments) c.0 in
+    let g = both (name_fits n) (nat_le (length arguments) 64) d.0 in
+    let names = head_named bytes a.0.x n arguments _ [] e in
     record {
-      named = name;
-      answered = answer_type made.signature.answer a.0 d.0;
-      passed = All-from_recursion IsReadPassed made.passed (passed_read made.callee made.passed b.1 i.0);
-      few = leb-true (length live) 16384 k.0;
-    }
-
-pub said_read : (s : Statement) → is_formed s ≡ true → statement_fits s ≡ true → CallsVoid s → SaysNames s → SaysRead s
-said_read (layout name fields) e f void names =
-    let a = both (name_fits name) (nat_le (length fields) 64 && list_all type_fits fields) f in
-    let b = both (nat_le (length fields) 64) (list_all type_fits fields) a.1 in
-    (names, leb-true (length name) 4096 a.0, leb-true (length fields) 64 b.0)
-said_read (define answer name arguments strategy) e f void names =
-    let a = both (is_answer_type answer) (list_all (λ (one : Named). is_argument_type false one.ty) arguments) e in
-    let b = both (type_fits answer) (name_fits name && nat_le (length arguments) 64 && list_all argument_fits arguments) f in
-    let c = both (name_fits name && nat_le (length arguments) 64) (list_all argument_fits arguments) b.1 in
-    let d = both (name_fits name) (nat_le (length arguments) 64) c.0 in
-    record {
-      answered = answer_type answer a.0 b.0;
+      answered = answer_type a.0.x a.0.is b.0;
       named = names.0;
-      short = leb-true (length name) 4096 d.0;
-      few = leb-true (length arguments) 64 d.1;
-      each = All-from_recursion IsReadArgument arguments (arguments_read arguments a.1 c.1 (recursion_from_All (λ (one : Named). IsNameIfAny one.name) arguments names.1));
+      short = leb-true (length n) 4096 g.0;
+      few = leb-true (length arguments) 64 g.1;
+      each = All-from_recursion IsReadArgument arguments (arguments_read arguments a.1.0.is d.1 names.1);
     }
-said_read (label name) e f void names = names
-said_read (binary result op width left right) e f void names = (names, width_is width (both (width_fits width) (value_fits left && value_fits right) f).0)
-said_read (compare result predicate ty left right) e f void names = (names, value_type ty e (both (type_fits ty) (value_fits left && value_fits right) f).0)
-said_read (convert result op width value to) e f void names =
-    let a = both (width_fits width) (value_fits value && width_fits to) f in
-    (names, width_is width a.0, width_is to (both (value_fits value) (width_fits to) a.1).1)
-said_read (select result condition left_ty left right_ty right) e f void names =
-    let a = both (value_fits condition) (type_fits left_ty && (value_fits left && (type_fits right_ty && value_fits right))) f in
-    (names, value_type left_ty (both (is_value_type left_ty) (is_value_type right_ty) e).0 (both (type_fits left_ty) (value_fits left && (type_fits right_ty && value_fits right)) a.1).0)
-said_read (phi result ty entries) e f void names =
-    let a = both (is_value_type ty) (nat_le 1 (length entries)) e in
-    (names, value_type ty a.0 (both (type_fits ty) (list_all entry_value_fits entries) f).0, leb-true 1 (length entries) a.1)
-said_read (scalar_step result element address width index) e f void names =
-    (names, width_is width (both (width_fits width) (value_fits index) (both (value_fits address) (width_fits width && value_fits index) f).1).0, e)
-said_read (layout_step result named address width index place) e f void names =
-    (names, width_is width (both (width_fits width) (value_fits index && place_fits place) (both (value_fits address) (width_fits width && (value_fits index && place_fits place)) f).1).0)
-said_read (load result ty address) e f void names = (names, value_type ty e (both (type_fits ty) (value_fits address) f).0)
-said_read (store ty value address) e f void names = value_type ty e (both (type_fits ty) (value_fits value && value_fits address) f).0
-said_read (call None answer callee passed) e f void names =
-    (void, All-from_recursion IsReadPassed passed (passed_read callee passed e (both (type_fits answer) (list_all given_fits passed) f).1))
-said_read (call (Some result) answer callee passed) e f void names =
-    let a = both (is_value_type answer) (list_all (given_is_formed callee) passed) e in
-    let b = both (type_fits answer) (list_all given_fits passed) f in
-    ((names, value_type answer a.0 b.0), All-from_recursion IsReadPassed passed (passed_read callee passed a.1 b.1))
-said_read (switch width value default) e f void names = width_is width (both (width_fits width) (value_fits value) f).0
-said_read (switch_case width value to) e f void names = e
-said_read (ret ty value) e f void names = value_type ty e (both (type_fits ty) (value_fits value) f).0
-said_read (statepoint result made live) e f void names = statepoint_read result made live e f names
-said_read (gc_result result ty token) e f void names = (names, value_type ty e f)
-said_read (gc_relocate result token base derived) e f void names = names
-said_read s e f void names = tt
+says_read (forms.Binary op) kept bytes a e f = (result_named _ bytes a.0 _ [] e, width_is a.1.0 (both (width_fits a.1.0) _ f).0)
+says_read forms.Compare kept bytes a e f = (result_named _ bytes a.0 _ [] e, value_type a.1.1.0.x a.1.1.0.is (both (type_fits a.1.1.0.x) _ f).0)
+says_read (forms.Convert op) kept bytes a e f =
+    let b = both (width_fits a.1.0) _ f in
+    let c = both (value_fits a.1.1.0) _ b.1 in
+    (result_named _ bytes a.0 _ [] e, width_is a.1.0 b.0, width_is a.1.1.1.0 (both (width_fits a.1.1.1.0) true c.1).0)
+says_read forms.Select kept bytes a e f =
+    let b = both (value_fits a.1.0) _ f in
+    (result_named _ bytes a.0 _ [] e, value_type a.1.1.0.x a.1.1.0.is (both (type_fits a.1.1.0.x) _ b.1).0)
+says_read forms.Phi kept bytes a e f =
+    (result_named _ bytes a.0 _ [] e, value_type a.1.0.x a.1.0.is (both (type_fits a.1.0.x) _ f).0, leb-true 1 (length a.1.1.0.x) a.1.1.0.is)
+says_read forms.ScalarElement kept bytes a e f =
+    let b = both (value_fits a.1.1.0) _ f in
+    (result_named _ bytes a.0 _ [] e, width_is a.1.1.1.0 (both (width_fits a.1.1.1.0) _ b.1).0, a.1.0.is)
+says_read forms.LayoutElement kept bytes a e f =
+    let b = both (value_fits a.1.1.0) _ f in
+    (result_named _ bytes a.0 _ [] e, width_is a.1.1.1.0 (both (width_fits a.1.1.1.0) _ b.1).0)
+says_read forms.Load kept bytes a e f = (result_named _ bytes a.0 _ [] e, value_type a.1.0.x a.1.0.is (both (type_fits a.1.0.x) _ f).0)
+says_read forms.Store kept bytes a e f = value_type a.0.x a.0.is (both (type_fits a.0.x) _ f).0
+says_read forms.ValueCall kept bytes a e f =
+    let passed = a.1.1.0.x.1 in
+    let b = both (type_fits a.1.0.x) _ f in
+    let c = both (list_all given_fits passed) true b.1 in
+    ((result_named _ bytes a.0 _ [] e, value_type a.1.0.x a.1.0.is b.0), All-from_recursion IsReadPassed passed (passed_read passed a.1.1.0.is c.0))
+says_read forms.VoidCall kept bytes a e f =
+    let passed = a.0.x.1 in
+    (refl, All-from_recursion IsReadPassed passed (passed_read passed a.0.is (both (list_all given_fits passed) true f).0))
+says_read forms.Switch kept bytes a e f = width_is a.0 (both (width_fits a.0) _ f).0
+says_read forms.Case kept bytes a e f = a.1.0.is
+says_read forms.Return kept bytes a e f = value_type a.0.x a.0.is (both (type_fits a.0.x) _ f).0
+says_read forms.Statepoint kept bytes a e f =
+    let answer = a.1.1.0 in
+    let passed = a.1.1.1.1.1.1.0 in
+    let live = a.1.1.1.1.1.1.1.0 in
+    let b = both (literal_fits a.1.0) _ f in
+    let c = both (type_fits answer.x) _ b.1 in
+    let d = both (list_all type_fits a.1.1.1.0) _ c.1 in
+    let g = both (literal_fits a.1.1.1.1.1.0) _ d.1 in
+    let h = both (list_all given_fits passed.x) _ g.1 in
+    let i = both (live_fits live) true h.1 in
+    record {
+      named = result_named _ bytes a.0 _ [] e;
+      answered = answer_type answer.x answer.is c.0;
+      passed = All-from_recursion IsReadPassed passed.x (passed_read passed.x passed.is h.0);
+      few = leb-true (length live) 16384 (both (nat_le (length live) 16384) (list_all value_fits live) i.0).0;
+    }
+says_read forms.GcResult kept bytes a e f = (result_named _ bytes a.0 _ [] e, value_type a.1.0.x a.1.0.is (both (type_fits a.1.0.x) _ f).0)
+says_read forms.GcRelocate kept bytes a e f = result_named _ bytes a.0 _ [] e
+says_read form kept bytes a e f = tt
+
+pub said_read : (what : Said) → IsKept what → IsSpelled what → said_fits what ≡ true → SaysRead (stated what)
+said_read (label name) kept spelled f = label_name (after_blanks spelled.0) name spelled.1
+said_read (line l) kept spelled f =
+    let fitting = (fit_parts l.form (tokens spelled.0) l.items [] spelled.1).0 in
+    let parts = parse_told (slots l.form) (tokens spelled.0) l.items [] fitting in
+    subst (λ (whole : List Item). parse (slots l.form) (tokens spelled.0) ≡ Some (whole, []) → list_all item_fits whole ≡ true → SaysRead (of_form l.form (slice_get whole)))
+    parts.1 (says_read l.form kept spelled.0 parts.0) fitting f

@@ -9,6 +9,7 @@ use Rattle.ir_reader.specs.Raws.{Readings, IsRead, seen_numbered}
 use Rattle.ir_reader.specs.Text.{Outcome, no_reading, over_limit, nothing, said, is_top, outcome, opening, Fault, syntax_fault, limit_fault, Numbered, with_first, readings_by, readings, readings_in}
 use Rattle.ir_lines.specs.Statements.{Line}
 use Rattle.ir_lines.specs.Views.{seen_lines}
+use Rattle.module_laws.proofs.Runs.{read-is, no-fault}
 
 -- numbers that don't fall, from a first to a last one
 abbrev pub Within : ℕ → List ℕ → ℕ → Type 0
@@ -47,18 +48,6 @@ within-order (x ∷ xs) from to (suc i) (suc j) within order below =
 
 abbrev numbers_read : List Numbered → List ℕ
 numbers_read xs = map (λ x. x.line) xs
-
-abbrev as_read : List Numbered → Result (List Numbered) Fault
-as_read xs = Ok xs
-
-abbrev as_fault : Fault → Result (List Numbered) Fault
-as_fault fault = Err fault
-
-read-is : (xs ys : List Numbered) → as_read xs ≡ as_read ys → xs ≡ ys
-read-is xs ys e = cc
-
-no-fault : (fault : Fault) (xs : List Numbered) → as_fault fault ≡ as_read xs → ⊥
-no-fault fault xs e = cc
 
 rises-is : (xs ys : List Numbered) (from to : ℕ) → xs ≡ ys → Within from (numbers_read xs) to → Within from (numbers_read ys) to
 rises-is xs ys from to e h = subst (λ (zs : List Numbered). Within from (numbers_read zs) to) e h

@@ -32,7 +32,7 @@ abbrev pub IsSpelled : Said → Type 0
 IsSpelled (label name) = (bytes : List ℕ) × (label_of bytes ≡ Some name)
 IsSpelled (line l) = (bytes : List ℕ) × (fit l.form (tokens bytes) ≡ Some (l.items, []))
 
--- no line that is dropped
+-- its form is none of those that are dropped
 abbrev pub IsKept : Said → Type 0
 IsKept (label name) = ⊤
 IsKept (line l) = is_dropped_form l.form ≡ false
@@ -55,17 +55,17 @@ pub record IsStep (s : State) (what : Said) (next : State) : Type 0 where
 step-is : (s : State) (w what : Said) (n next : State) → w ≡ what → n ≡ next → IsStep s w n → IsStep s what next
 step-is s w what n next e f h = rw (← e, ← f) h
 
-both : (x y : Bool) → (x && y) ≡ true → (x ≡ true) × (y ≡ true)
+pub both : (x y : Bool) → (x && y) ≡ true → (x ≡ true) × (y ≡ true)
 both true y e = (refl, e)
 both false y e = absurd (let bad : false ≡ true = e in cc)
 
 within-step : (s : State) (form : Form) (place : Place) (items : List Item) (bytes : List ℕ) (b : Bool) (what : Said) (next : State)
-    → form_in s.form (tokens bytes) ≡ Some form → fit form (tokens bytes) ≡ Some (items, []) → behind s.place form ≡ Some place
-    → is_dropped_form form ≡ false → (said_fits (of_form form items) && counts_fit (next_state s place (of_form form items)).counts) ≡ b
+    → is_dropped_form form ≡ false → form_in s.form (tokens bytes) ≡ Some form → fit form (tokens bytes) ≡ Some (items, []) → behind s.place form ≡ Some place
+    → (said_fits (of_form form items) && counts_fit (next_state s place (of_form form items)).counts) ≡ b
     → (if b then said (of_form form items) (next_state s place (of_form form items)) else over_limit) ≡ said what next
     → IsStep s what next
-within-step s form place items bytes false what next f p e kept fits o = absurd (let bad : over_limit ≡ said what next = o in cc)
-within-step s form place items bytes true what next f p e kept fits o =
+within-step s form place items bytes false what next kept f p e fits o = absurd (let bad : over_limit ≡ said what next = o in cc)
+within-step s form place items bytes true what next kept f p e fits o =
     let is : said (of_form form items) (next_state s place (of_form form items)) ≡ said what next = o in
     let w : of_form form items ≡ what = cc in
     let n : next_state s place (of_form form items) ≡ next = cc in
@@ -82,16 +82,16 @@ within-step s form place items bytes true what next f p e kept fits o =
     })
 
 dropped-step : (s : State) (form : Form) (place : Place) (items : List Item) (bytes : List ℕ) (b : Bool) (what : Said) (next : State)
-    → form_in s.form (tokens bytes) ≡ Some form → fit form (tokens bytes) ≡ Some (items, []) → behind s.place form ≡ Some place
-    → is_dropped_form form ≡ b → (if b then dropped_within (of_form form items) else within s place (of_form form items)) ≡ said what next
+    → is_dropped_form form ≡ b → form_in s.form (tokens bytes) ≡ Some form → fit form (tokens bytes) ≡ Some (items, []) → behind s.place form ≡ Some place
+    → (if b then dropped_within (of_form form items) else within s place (of_form form items)) ≡ said what next
     → IsStep s what next
-dropped-step s form place items bytes true what next f p e kept o = absurd (by (said_fits (of_form form items)) o)
+dropped-step s form place items bytes true what next drops f p e o = absurd (by (said_fits (of_form form items)) o)
   where
     by : (fits : Bool) → (if fits then nothing else over_limit) ≡ said what next → ⊥
     by true bad = cc
     by false bad = cc
-dropped-step s form place items bytes false what next f p e kept o =
-    within-step s form place items bytes (said_fits (of_form form items) && counts_fit (next_state s place (of_form form items)).counts) what next f p e kept refl o
+dropped-step s form place items bytes false what next kept f p e o =
+    within-step s form place items bytes (said_fits (of_form form items) && counts_fit (next_state s place (of_form form items)).counts) what next kept f p e refl o
 
 -- what the tokens of a form come to
 found-step : (s : State) (form : Form) (place : Place) (bytes : List ℕ) (found : Found (List Item)) (what : Said) (next : State)
@@ -102,7 +102,7 @@ unfolding after
 found-step s form place bytes None what next f p e o = absurd (let bad : no_reading ≡ said what next = o in cc)
 found-step s form place bytes (Some (items, t ∷ rest)) what next f p e o = absurd (let bad : no_reading ≡ said what next = o in cc)
 found-step s form place bytes (Some (items, [])) what next f p e o =
-    dropped-step s form place items bytes (is_dropped_form form) what next f p e refl o
+    dropped-step s form place items bytes (is_dropped_form form) what next refl f p e o
 
 formed-step : (s : State) (form : Form) (bytes : List ℕ) (place : Option Place) (what : Said) (next : State)
     → form_in s.form (tokens bytes) ≡ Some form → behind s.place form ≡ place → formed s form (tokens bytes) place ≡ said what next → IsStep s what next
@@ -178,16 +178,16 @@ abbrev pub Runs : State → List Numbered → Type 0
 Runs s [] = is_top s.place ≡ true
 Runs s (x ∷ xs) = Steps s x.said (λ next. Runs next xs)
 
-abbrev as_read : List Numbered → Result (List Numbered) Fault
+abbrev pub as_read : List Numbered → Result (List Numbered) Fault
 as_read xs = Ok xs
 
-abbrev as_fault : Fault → Result (List Numbered) Fault
+abbrev pub as_fault : Fault → Result (List Numbered) Fault
 as_fault fault = Err fault
 
-read-is : (xs ys : List Numbered) → as_read xs ≡ as_read ys → xs ≡ ys
+pub read-is : (xs ys : List Numbered) → as_read xs ≡ as_read ys → xs ≡ ys
 read-is xs ys e = cc
 
-no-fault : (fault : Fault) (xs : List Numbered) → as_fault fault ≡ as_read xs → ⊥
+pub no-fault : (fault : Fault) (xs : List Numbered) → as_fault fault ≡ as_read xs → ⊥
 no-fault fault xs e = cc
 
 runs-is : (s : State) (xs ys : List Numbered) → xs ≡ ys → Runs s xs → Runs s ys

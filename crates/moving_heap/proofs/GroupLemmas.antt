@@ -1,5 +1,5 @@
 -- Groups as they are judged: a move for each object, to 0 where it has no target.
-use Rattle.std.proofs.Common.{◌≡◌, ℕ, zero, suc, ◌+◌, ◌<◌, ◌≤◌, ◌≢◌, Bool, true, false, cond, eqb, ltb, leb, List, [], ◌∷◌, ◌++◌, length, take, drop, map, filter, get_or, set, replicate, refl, sym, ap, ◌∙◌, subst, arith, ◌&&◌, Option, Some, None}
+use Rattle.std.proofs.Common.{◌≡◌, ℕ, zero, suc, ◌+◌, ◌<◌, ◌≤◌, ◌≢◌, Bool, true, false, cond, eqb, ltb, leb, List, [], ◌∷◌, ◌++◌, length, map, filter, get_or, set, replicate, refl, sym, ap, ◌∙◌, subst, arith, ◌&&◌, Option, Some, None}
 use Rattle.std.specs.Option.{is_some}
 use Rattle.std.specs.List.{range_with_len, list_all}
 use Rattle.std.specs.List.Sorted.{IsPermutation, IsNonDecreasingBy}
@@ -7,7 +7,7 @@ use Rattle.std.proofs.lemmas.List.FromFn.{fill_by_all}
 use Rattle.std.proofs.lemmas.List.Sorted.{IsPermutation-map}
 use Rattle.std.proofs.lemmas.Bool.{and_parts, and_left, and_right, eq-eqb, ne_eqb, false_from_ne_true, ltb-true, leb-true}
 use Rattle.std.proofs.lemmas.List.Sums.{AllPass-from_list_all}
-use Rattle.std.proofs.lemmas.List.{get_or-map, drop_more, take_more, take_more_set, drop-set-lt, length-drop, append_assoc}
+use Rattle.std.proofs.lemmas.List.{get_or-map}
 use Rattle.move_plan.specs.declared.plan_lines.Move.{Move}
 use Rattle.moving_heap.specs.declared.stands.Stand.{Stand}
 use Rattle.moving_heap.specs.declared.stands.Moved.{Moved}

@@ -419,3 +419,18 @@ owner_at_place stands order word k stand are is l e low high =
     let here : get_or order k stand ≡ stand = get_or_from_slice_get order k stand stand e in
     subst (λ (s : Stand). Some s ≡ owner stands word) here
     (owner_found stands order word k stand are is l (subst (λ (s : Stand). s.address ≤ word) (sym here) low) (subst (λ (s : Stand). word < s.address + s.size) (sym here) high))
+
+-- the same by an object's own place
+pub stands_in_place : (stands : List Stand) (base k : ℕ) (stand : Stand) → AreSettled stands → k < length stands → stand ≡ get_or stands k stand → stand.address ≡ base
+    → Some stand ≡ stands_at stands base
+stands_in_place stands base k stand are l is at =
+    subst (λ (s : Stand). Some s ≡ stands_at stands base) (sym is)
+    (sym (find_at_index (λ (s : Stand). eqb s.address base) stands k stand l (eq-eqb (get_or stands k stand).address base (ap (λ (s : Stand). s.address) (sym is) ∙ at)) (one_stands_at stands base are)))
+
+pub owner_in_place : (stands : List Stand) (word k : ℕ) (stand : Stand) → AreSettled stands → k < length stands → stand ≡ get_or stands k stand → stand.address ≤ word → word < stand.address + stand.size
+    → Some stand ≡ owner stands word
+owner_in_place stands word k stand are l is low high =
+    subst (λ (s : Stand). Some s ≡ owner stands word) (sym is)
+    (sym (find_at_index (holds word) stands k stand l
+    (subst (λ (s : Stand). holds word s ≡ true) is (and_from (leb stand.address word) (ltb word (stand.address + stand.size)) (le-leb stand.address word low) (lt-ltb word (stand.address + stand.size) high)))
+    (one_owner stands word are)))

@@ -1,5 +1,5 @@
 -- Footprints, where every cell has 8 bytes: of a new object, and of those that are there.
-use Rattle.std.proofs.Common.{◌≡◌, ℕ, zero, suc, ◌-◌, ◌*◌, ◌<◌, ◌++◌, List, [], ◌∷◌, length, map, take, drop, get_or, max, refl, ap, ◌∙◌, arith}
+use Rattle.std.proofs.Common.{◌≡◌, ℕ, zero, suc, ◌-◌, ◌*◌, ◌<◌, List, [], ◌∷◌, length, map, take, drop, get_or, max, refl, ap, ◌∙◌, arith}
 use Rattle.std.specs.List.{sum_by}
 use Rattle.std.proofs.lemmas.List.{length-take-le, length-drop, get_or-map, length-set}
 use Rattle.std.proofs.lemmas.List.Sums.{sum_by-cons}
@@ -10,7 +10,7 @@ use Rattle.ir_ast.proofs.SizeLaws.{aligned_at, size_is}
 use Rattle.moving_heap.specs.declared.cells.Part.{Part}
 use Rattle.moving_heap.specs.declared.cells.Counted.{Counted}
 use Rattle.moving_heap.specs.declared.stands.Moved.{Moved}
-use Rattle.moving_heap.specs.Contents.{Content, Shape, AreKept, contents_of, shapes_of, bytes_of, sizes_of, with_word, after_moves, moved_words, nothing_kept, begins}
+use Rattle.moving_heap.specs.Contents.{Content, Shape, AreKept, contents_of, shapes_of, bytes_of, sizes_of, with_word, after_moves, nothing_kept, begins}
 use Rattle.moving_heap.specs.Heaps.{footprint}
 use Rattle.moving_heap.proofs.CellLemmas.{moved_count}
 use Rattle.moving_heap.proofs.ShapeLemmas.{shape_is_at, shapes_of-length}

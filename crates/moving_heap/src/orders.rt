@@ -76,6 +76,7 @@ impl Order {
     }
 
     /// How many stand at or before an address.
+    #[cold]
     pub(crate) fn count_to(&self, stands: &Stands, word: u64) -> usize
         requires { AreRanked stands.now self.now }
         ensures within { result ≤ length (ranks stands.now self.now) }

@@ -1,6 +1,6 @@
 //! Objects where they stand, and their moves.
 
-ghost use Rattle.std.specs.Prelude.{◌≡◌, length};
+ghost use Rattle.std.specs.Prelude.{◌≡◌, ◌-◌, length};
 ghost use Rattle.moving_heap.specs.Orders.{stand_at, target_in, targets_in, target_of, then_at};
 ghost use Rattle.moving_heap.specs.Contents.{sizes_of};
 ghost use Rattle.moving_heap.specs.Settled.{AreSettled, numbered};
@@ -14,6 +14,16 @@ pub struct Stand {
     pub number: u32,
     pub size: u32,
     pub address: u64,
+}
+
+impl Stand {
+    /// Its place among all objects, from 0.
+    #[inline(always)]
+    pub(crate) fn place(self) -> usize
+        ensures { result ≡ self.number - 1 }
+    {
+        (self.number as usize).saturating_sub(1)
+    }
 }
 
 /// The move of an object, by its addresses.
@@ -57,6 +67,7 @@ impl<'a> Model for Stands<'a> {
 
 impl<'a> Stands<'a> {
     /// The objects that have these addresses and cells.
+    #[inline(always)]
     pub(crate) fn of(addresses: &'a [u64], cells: &'a Cells) -> Stands<'a>
         requires same { length cells.now ≡ length addresses.now }
         requires settled { AreSettled (numbered 0 addresses.now (sizes_of cells.now)) }
@@ -66,6 +77,7 @@ impl<'a> Stands<'a> {
     }
 
     /// How many there are.
+    #[inline(always)]
     pub(crate) fn len(&self) -> usize
         ensures { result ≡ length self.now }
     {
@@ -73,6 +85,7 @@ impl<'a> Stands<'a> {
     }
 
     /// An object by its place among all, from 0.
+    #[inline(always)]
     pub(crate) fn at(&self, place: usize) -> Stand
         ensures { result ≡ stand_at self.now place }
     {
@@ -107,7 +120,7 @@ pub(crate) fn target_in(moved: Moved) -> Option<u64>
 pub(crate) fn target_of(targets: &[Moved], stand: Stand) -> Option<u64>
     ensures { result ≡ target_of (targets_in targets.now) stand }
 {
-    let place = (stand.number as usize).saturating_sub(1);
+    let place = stand.place();
     if place < targets.len() {
         target_in(targets[place])
     } else {

@@ -74,7 +74,17 @@ impl Chains {
         if self.last.is_empty() {
             return None;
         }
-        let mut at = self.last[bucket_of(name, self.last.len())];
+        self.find_in(bucket_of(name, self.last.len()), names, name)
+    }
+
+    // The same, where the bucket of the name is this.
+    fn find_in(&self, bucket: usize, names: &[&[u8]], name: &[u8]) -> Option<usize>
+        requires chained { IsChained (map (λ one. one.now) names.now) self.now }
+        requires bucket { bucket ≡ bucket_of (length self.now.last.items) name.now }
+        requires below { bucket < length self.now.last.items }
+        ensures { result ≡ place_in (map (λ one. one.now) names.now) name.now }
+    {
+        let mut at = self.last[bucket];
         while let Some(place) = at {
             if is_same(names[place], name) {
                 return Some(place);
@@ -84,10 +94,33 @@ impl Chains {
         None
     }
 
-    /// Adds the place of a name behind these.
-    pub fn link(&mut self, names: &[&[u8]], name: &[u8], is_new: bool) -> Result<(), AllocError>
+    /// Adds the place of a name behind these, and answers whether none of them is the same.
+    pub fn link(&mut self, names: &[&[u8]], name: &[u8]) -> Result<bool, AllocError>
         requires chained { IsChained (map (λ one. one.now) names.now) self.old }
         requires room { length names.now < length self.old.last.items }
+        ensures ok { OnOk result (IsChained (map (λ one. one.now) names.now ++ name.now ∷ []) self.new) }
+        ensures is_new { IfOk result (λ is_new. is_new ≡ is_none (place_in (map (λ one. one.now) names.now) name.now)) }
+        ensures err { OnErr result (IsChained (map (λ one. one.now) names.now) self.new) }
+        ensures buckets { length self.new.last.items ≡ length self.old.last.items }
+    {
+        let bucket = bucket_of(name, self.last.len());
+        let is_new = self.find_in(bucket, names, name).is_none();
+        self.link_in(bucket, names, name, is_new)?;
+        Ok(is_new)
+    }
+
+    // Adds the place of a name of this bucket.
+    fn link_in(
+        &mut self,
+        bucket: usize,
+        names: &[&[u8]],
+        name: &[u8],
+        is_new: bool,
+    ) -> Result<(), AllocError>
+        requires chained { IsChained (map (λ one. one.now) names.now) self.old }
+        requires room { length names.now < length self.old.last.items }
+        requires bucket { bucket ≡ bucket_of (length self.old.last.items) name.now }
+        requires below { bucket < length self.old.last.items }
         requires is_new { is_new ≡ is_none (place_in (map (λ one. one.now) names.now) name.now) }
         ensures ok { OnOk result (IsChained (map (λ one. one.now) names.now ++ name.now ∷ []) self.new) }
         ensures err { OnErr result (IsChained (map (λ one. one.now) names.now) self.new) }
@@ -97,7 +130,6 @@ impl Chains {
             self.before.push(None)?;
             return Ok(());
         }
-        let bucket = bucket_of(name, self.last.len());
         self.before.push(self.last[bucket])?;
         self.last[bucket] = Some(names.len());
         Ok(())
@@ -112,8 +144,7 @@ impl Chains {
         let mut chains = Chains::with_room(alloc, buckets)?;
         for (place, name) in names.iter().enumerate() {
             let earlier = &names[..place];
-            let is_new = chains.find(earlier, name).is_none();
-            chains.link(earlier, name, is_new)?;
+            chains.link(earlier, name)?;
         }
         Ok(chains)
     }

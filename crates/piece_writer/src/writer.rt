@@ -48,7 +48,10 @@ impl<'a, S: Sink> PieceWriter<'a, S> {
         Ok(())
     }
 
-    // Puts the bytes that are held, and then holds these or puts them.
+    // Puts the bytes that are held, and then holds these or puts them. It is called once for a whole buffer, so that the way on
+    // which bytes are held stays short.
+    #[cold]
+    #[inline(never)]
     fn put_past(&mut self, bytes: &[u8]) -> Result<(), Failed>
         requires { self.old.failed ≡ false }
         ensures ok { OnOk result (Takes S.written S.faults self.old self.new bytes.now) }
@@ -97,6 +100,7 @@ impl<S: Sink> PieceSink for PieceWriter<'_, S> {
 
     ghost failed_in_second = { λ old mid new first second one failed. (failed.0 ∙ one.0, Fell-second _ _ _ first second one.1 failed.1) };
 
+    #[inline(always)]
     fn put(&mut self, bytes: &[u8]) -> Result<(), Failed> {
         if self.failed {
             return Err(Failed);

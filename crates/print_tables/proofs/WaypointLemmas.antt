@@ -1,14 +1,11 @@
 -- Waypoints, and the results that stand before them.
-use Rattle.std.proofs.Common.{◌≡◌, ℕ, true, false, ◌+◌, ◌<◌, List, [], ◌∷◌, ◌++◌, Option, Some, None, is_some, suc, zero, length, drop, get_or, refl, sym, ap, ◌∙◌, add-one, drop-cons, arith}
-use Rattle.std.specs.List.{All}
-use Rattle.std.proofs.lemmas.List.Elements.{All-append}
+use Rattle.std.proofs.Common.{◌≡◌, ℕ, true, false, ◌+◌, ◌<◌, List, [], ◌∷◌, ◌++◌, Option, Some, None, is_some, suc, length, drop, get_or, refl, sym, ap, ◌∙◌, add-one, drop-cons, arith}
 use Rattle.std.proofs.lemmas.Bool.{true≢false}
 use Rattle.ir_ast.specs.Insts.{Instruction}
 use Rattle.ir_ast.specs.Blocks.{BasicBlock}
 use Rattle.ir_ast.specs.Funcs.{instructions_of}
 use Rattle.print_tables.specs.Names.{result_name}
 use Rattle.print_tables.specs.Waypoints.{instructions_from, StandBefore, IsWaypoint}
-use Rattle.print_tables.specs.declared.waypoints.Waypoint.{Waypoint}
 use Rattle.print_tables.proofs.NameLemmas.{result_name-at_later, result_name-at_none}
 
 -- the instructions from a place in the block with this number on
@@ -19,15 +16,6 @@ instructions_from-drop blocks place inst block within is = rw (add-one, drop-con
 pub IsWaypoint-here : (blocks : List BasicBlock) (place inst results : ℕ) (block : BasicBlock) (items : List Instruction) → place < length blocks → block ≡ get_or blocks place block → items ≡ block.insts → StandBefore (instructions_of blocks) (drop inst items ++ instructions_of (drop (place + 1) blocks)) results → IsWaypoint blocks (record { results = results; block = place; inst = inst })
 IsWaypoint-here blocks place inst results block items within is same before number =
     before number ∙ ap (λ (rest : List Instruction). result_name rest number) (rw (instructions_from-drop blocks place inst block within is, same))
-
--- waypoints and one more
-pub All-more_waypoint : (blocks : List BasicBlock) (waypoints : List Waypoint) (waypoint : Waypoint) → All (IsWaypoint blocks) waypoints → IsWaypoint blocks waypoint → All (IsWaypoint blocks) (waypoints ++ waypoint ∷ [])
-All-more_waypoint blocks waypoints waypoint all one =
-    All-append (IsWaypoint blocks) waypoints (waypoint ∷ []) all only
-  where
-    only : All (IsWaypoint blocks) (waypoint ∷ [])
-    only zero default within = one
-    only (suc place) default within = absurd (omega arith)
 
 -- one more result stands behind an instruction that has one
 pub StandBefore-some : (insts items : List Instruction) (place : ℕ) (inst : Instruction) (later : List Instruction) (results : ℕ) → place < length items → inst ≡ get_or items place inst → is_some inst.result ≡ true → StandBefore insts (drop place items ++ later) results → StandBefore insts (drop (place + 1) items ++ later) (results + 1)

@@ -1,8 +1,9 @@
 -- The externals that a module may have to declare, and which of them its lines call.
-use Rattle.std.specs.Prelude.{Bool, true, false, ◌==◌, ◌||◌, List}
+use Rattle.std.specs.Prelude.{ℕ, Bool, true, false, ◌==◌, ◌||◌, List}
 use Rattle.std.specs.List.{list_any}
 use Rattle.ir_ast.specs.declared.types.Ty.{Ty}
-use Rattle.ir_ast.specs.declared.types.Ty.TheVariants.{Int, Ptr}
+use Rattle.ir_ast.specs.declared.types.Ty.TheVariants.{Void, Int, Ptr, Token}
+use Rattle.ir_ast.specs.Types.{is_pointer}
 use Rattle.ir_ast.specs.declared.ops.Callee.{Callee}
 use Rattle.ir_ast.specs.declared.ops.Callee.TheVariants as callee
 use Rattle.ir_ast.specs.declared.ops.Op.{Op}
@@ -22,11 +23,18 @@ is_callee Check callee.Check = true
 is_callee Same callee.Same = true
 is_callee _ _ = false
 
+-- an integer of this width
+abbrev pub is_of_width : ℕ → Ty → Bool
+is_of_width width (Int other) = width == other
+is_of_width width Void = false
+is_of_width width Ptr = false
+is_of_width width Token = false
+
 -- a `gc.result` of this type
 abbrev pub is_result : External → Ty → Bool
-is_result (ResultOf width) (Int other) = width == other
-is_result ResultPointer Ptr = true
-is_result _ _ = false
+is_result (ResultOf width) ty = is_of_width width ty
+is_result ResultPointer ty = is_pointer ty
+is_result _ ty = false
 
 abbrev pub is_statepoints : External → Bool
 is_statepoints StatepointFamily = true

@@ -5,7 +5,7 @@ ghost use Rattle.ir_ast.specs.Funcs.{content_of, instructions_of};
 ghost use Rattle.print_tables.specs.Names.{layout_name, function_name, block_name, value_name, result_name as name_of_result};
 ghost use Rattle.print_tables.specs.Waypoints.{instructions_from, IsWaypoint};
 
-use crate::waypoints::{MOST, Waypoint, waypoint_before, waypoints_of};
+use crate::waypoints::{MOST, Waypoint, power_for, waypoint_before, waypoints_of};
 use arrayvec::ArrayVec;
 use ir_ast::{Block, Func, Layout};
 use sp_ids::{BlockId, FuncId, ValueId};
@@ -17,6 +17,7 @@ pub struct Scope<'a> {
     layouts: &'a [Layout],
     funcs: &'a [Func],
     func: &'a Func,
+    power: u32,
     waypoints: ArrayVec<Waypoint, MOST>,
 }
 
@@ -43,11 +44,13 @@ impl<'a> Scope<'a> {
     pub fn of(layouts: &'a [Layout], funcs: &'a [Func], func: &'a Func) -> Scope<'a>
         ensures { result ≡ record { layouts = layouts.now; funcs = map content_of funcs.now; func = func.now.content } }
     {
+        let power = power_for(func.blocks());
         Scope {
             layouts,
             funcs,
             func,
-            waypoints: waypoints_of(func.blocks()),
+            power,
+            waypoints: waypoints_of(func.blocks(), power),
         }
     }
 
@@ -82,7 +85,7 @@ impl<'a> Scope<'a> {
     pub fn value(&self, value: ValueId) -> &[u8]
         ensures { result.now ≡ value_name self.now.func value.0 }
     {
-        name_of_value(self.func, &self.waypoints, value)
+        name_of_value(self.func, &self.waypoints, self.power, value)
     }
 }
 
@@ -107,24 +110,34 @@ pub fn after<T>(elements: &[T], count: usize) -> &[T]
     }
 }
 
-fn name_of_value<'a>(func: &'a Func, waypoints: &[Waypoint], value: ValueId) -> &'a [u8]
+fn name_of_value<'a>(func: &'a Func, waypoints: &[Waypoint], power: u32, value: ValueId) -> &'a [u8]
     requires { All (IsWaypoint func.now.content.blocks) waypoints.now }
     ensures { result.now ≡ value_name func.now.content value.0 }
 {
     let args = func.args();
     match args.get(value.0 as usize) {
         Some(arg) => arg.name.bytes(),
-        None => result_name(func.blocks(), waypoints, value.0 as usize - args.len()),
+        None => result_name(
+            func.blocks(),
+            waypoints,
+            power,
+            value.0 as usize - args.len(),
+        ),
     }
 }
 
 // The name of the result with this number among the results of these blocks, in text order.
-fn result_name<'a>(blocks: &'a [Block], waypoints: &[Waypoint], number: usize) -> &'a [u8]
+fn result_name<'a>(
+    blocks: &'a [Block],
+    waypoints: &[Waypoint],
+    power: u32,
+    number: usize,
+) -> &'a [u8]
     requires { All (IsWaypoint blocks.now) waypoints.now }
     ensures { result.now ≡ name_of_result (instructions_of blocks.now) number }
 {
-    let start = waypoint_before(waypoints, number);
-    name_from(blocks, start, number - start.results)
+    let start = waypoint_before(waypoints, power, number);
+    name_from(blocks, start, number - start.results as usize)
 }
 
 // The same among the results from a place on.
@@ -132,8 +145,8 @@ fn name_from(blocks: &[Block], start: Waypoint, number: usize) -> &[u8]
     ensures { result.now ≡ name_of_result (instructions_from (drop start.block blocks.now) start.inst) number }
 {
     let mut left = number;
-    let mut first = start.inst;
-    for block in after(blocks, start.block) {
+    let mut first = start.inst as usize;
+    for block in after(blocks, start.block as usize) {
         for inst in after(block.insts(), first) {
             if let Some(name) = inst.result() {
                 if left == 0 {

@@ -1,5 +1,5 @@
 //! Waypoints of a function: places from which the later results are counted.
-ghost use Rattle.std.specs.Prelude.{◌≡◌, ◌≤◌, List};
+ghost use Rattle.std.specs.Prelude.{◌≡◌, ◌≤◌, List, IfSome};
 ghost use Rattle.std.specs.List.{All};
 ghost use Rattle.ir_ast.specs.Blocks.{BasicBlock};
 ghost use Rattle.print_tables.specs.Waypoints.{IsWaypoint};
@@ -10,34 +10,25 @@ use ir_ast::Block;
 /// A place in a function's blocks, and how many results stand before it.
 #[derive(Clone, Copy, Default)]
 pub(crate) struct Waypoint {
-    pub results: usize,
-    pub block: usize,
-    pub inst: usize,
+    pub results: u32,
+    pub block: u32,
+    pub inst: u32,
 }
 
 /// How many waypoints a function has at most.
-pub(crate) const MOST: usize = 512;
+pub(crate) const MOST: usize = 1_024;
 
-/// Waypoints of these blocks, spread evenly over their instructions.
-pub(crate) fn waypoints_of(blocks: &[Block]) -> ArrayVec<Waypoint, MOST>
+/// Waypoints of these blocks: one at each so many results, of which the number is 2 to this power.
+pub(crate) fn waypoints_of(blocks: &[Block], power: u32) -> ArrayVec<Waypoint, MOST>
     ensures { All (IsWaypoint blocks.now) result.items }
 {
-    let stride = size_of(blocks) / MOST + 1;
+    let mask = 1usize.wrapping_shl(power).saturating_sub(1);
     let mut waypoints = ArrayVec::new();
     let mut results = 0usize;
-    let mut until = 0;
     for (block, lines) in blocks.iter().enumerate() {
         for (inst, line) in lines.insts().iter().enumerate() {
-            if until == 0 {
-                let _ = waypoints.try_push(Waypoint {
-                    results,
-                    block,
-                    inst,
-                });
-                until = stride;
-            }
-            until -= 1;
             if line.result().is_some() {
+                add(results, mask, block, inst, &mut waypoints);
                 match results.checked_add(1) {
                     Some(more) => results = more,
                     None => return waypoints,
@@ -48,23 +39,68 @@ pub(crate) fn waypoints_of(blocks: &[Block]) -> ArrayVec<Waypoint, MOST>
     waypoints
 }
 
-// How many instructions these blocks have.
-fn size_of(blocks: &[Block]) -> usize {
-    let mut size = 0usize;
-    for block in blocks {
-        size = size.saturating_add(block.insts().len());
+// Adds a waypoint, where the number of results is one at which there is to be one, and there is room.
+fn add(
+    results: usize,
+    mask: usize,
+    block: usize,
+    inst: usize,
+    waypoints: &mut ArrayVec<Waypoint, MOST>,
+)
+    ensures { (blocks : List BasicBlock) → All (IsWaypoint blocks) waypoints.old.items
+        → IsWaypoint blocks (record { results = results; block = block; inst = inst }) → All (IsWaypoint blocks) waypoints.new.items }
+{
+    if results & mask != 0 {
+        return;
     }
-    size
+    if let Some(waypoint) = waypoint_at(results, block, inst) {
+        let _ = waypoints.try_push(waypoint);
+    }
 }
 
-/// The last of the waypoints before the result with this number, or else the function's start.
-pub(crate) fn waypoint_before(waypoints: &[Waypoint], number: usize) -> Waypoint
+fn waypoint_at(results: usize, block: usize, inst: usize) -> Option<Waypoint>
+    ensures { IfSome result (λ waypoint. waypoint ≡ record { results = results; block = block; inst = inst }) }
+{
+    Some(Waypoint {
+        results: u32::try_from(results).ok()?,
+        block: u32::try_from(block).ok()?,
+        inst: u32::try_from(inst).ok()?,
+    })
+}
+
+/// The power of 2 that these blocks have results for each waypoint, so that there are waypoints for all.
+pub(crate) fn power_for(blocks: &[Block]) -> u32 {
+    let count = count_of(blocks);
+    for power in 0..32 {
+        if count.wrapping_shr(power) < MOST {
+            return power;
+        }
+    }
+    32
+}
+
+// How many results these blocks have.
+fn count_of(blocks: &[Block]) -> usize {
+    let mut count = 0usize;
+    for block in blocks {
+        for inst in block.insts() {
+            if inst.result().is_some() {
+                count = count.saturating_add(1);
+            }
+        }
+    }
+    count
+}
+
+/// The last of the waypoints before the result with this number, where they stand as they do for this power, or else the function's
+/// start.
+pub(crate) fn waypoint_before(waypoints: &[Waypoint], power: u32, number: usize) -> Waypoint
     ensures right { (blocks : List BasicBlock) → All (IsWaypoint blocks) waypoints.now → IsWaypoint blocks result }
     ensures before { result.results ≤ number }
 {
-    let after = waypoints.partition_point(|waypoint| waypoint.results <= number);
-    match waypoints[..after].last() {
-        Some(waypoint) if waypoint.results <= number => *waypoint,
+    let place = number.wrapping_shr(power);
+    match waypoints.get(place) {
+        Some(waypoint) if waypoint.results as usize <= number => *waypoint,
         _ => Waypoint {
             results: 0,
             block: 0,

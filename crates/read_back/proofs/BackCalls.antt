@@ -180,10 +180,6 @@ passed_types names values (o ∷ os) (t ∷ ts) fit first =
     ap (λ (w : TypeWord). w ∷ map passed_type (passed_of names ts os)) (one_passed names values o t fit.0 first.0)
     ∙ ap (λ (ws : List TypeWord). word_of t ∷ ws) (passed_types names values os ts fit.1 first.1)
 
-abbrev named_by : Operand → ℕ
-named_by (operands.Fun f) = f.0
-named_by _ = 0
-
 record TaskPassed (scope : Scope) (names : Names) (func : FuncId) (os : List Operand) : Type 0 where
   words : map passed_type (passed_of names (tys.Void ∷ tys.Ptr ∷ []) os) ≡ types.Plain ∷ types.Managed ∷ []
   starts : starts_task scope (passed_of names (tys.Void ∷ tys.Ptr ∷ []) os) ≡ is_task (head_named scope (function_name names.funcs func.0))

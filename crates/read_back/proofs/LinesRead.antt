@@ -28,9 +28,6 @@ use Rattle.ir_reader.specs.Text.{nothing, said, outcome, Fault, Numbered, with_f
 use Rattle.ir_reader.specs.Text as texts
 use Rattle.ir_lines.specs.Statements.{Statement, stated}
 
-abbrev pub newline : ℕ
-newline = 10
-
 -- a byte that ends no line
 abbrev pub ends_none : ℕ → Bool
 ends_none b = not (b == 10) && not (b == 13)

@@ -4,9 +4,10 @@ use Rattle.std.specs.Prelude.{◌==◌, MatchOption, position}
 use Rattle.std.specs.List.{list_all, prefix_len, position_or_len}
 use Rattle.std.specs.Char.{is_ascii_digit}
 use Rattle.std.proofs.Math.Bool.{or-false}
-use Rattle.std.proofs.lemmas.Bool.{cases_Bool, eqb-true}
+use Rattle.std.proofs.lemmas.Bool.{cases_Bool, eqb-true, cond_above, cond_below, false_from_ne_true}
 use Rattle.std.proofs.lemmas.Bool.Decides.{nat_tests}
-use Rattle.std.proofs.lemmas.List.Sums.{prefix_len-le-length}
+use Rattle.std.proofs.lemmas.List.Sums.{prefix_len-le-length, position_or_len_is}
+use Rattle.memchr.specs.Find.{IsFirstByte}
 use Rattle.sp_text.specs.Bytes.{quote, zero_digit, begins_name, in_name}
 use Rattle.sp_text.specs.Fronts.{IsLongestFront, HasNoFront}
 use Rattle.sp_text.specs.Tokens.{is_nothing, are_digits, is_name, is_bang_end, ends_quote}
@@ -141,3 +142,16 @@ position-tells p bs (Some at) e = grind (arith, nat_tests)
 -- the first of a list of bytes is a byte
 pub first_small : (bs : List ℕ) (b : ℕ) (rest : List ℕ) → ((i : ℕ) → Fits w8 (get_or bs i 0)) → bs ≡ b ∷ rest → b < 256
 first_small bs b rest bytes e = omega (arith, rw e at (bytes 0))
+
+-- what a search for the first byte that passes gives
+pub first-position : (p : ℕ → Bool) (bs : List ℕ) (found : Option ℕ) → IsFirstByte p bs found → found ≡ position p bs
+first-position p bs None none =
+    let len : position_or_len p bs ≡ length bs =
+    position_or_len_is p bs (length bs) 0 (omega arith) (λ k below. false_from_ne_true _ (none k (omega arith) below)) (λ past. absurd (omega arith)) in
+    cond_above (position_or_len p bs) (length bs) _ _ _ (omega (arith, len)) refl
+first-position p bs (Some at) (first, passes) =
+    let before = first.before in
+    let high = first.high in
+    let at_first : position_or_len p bs ≡ at =
+    position_or_len_is p bs at 0 (omega arith) (λ k below. false_from_ne_true _ (before k (omega arith) below)) (λ _. passes) in
+    rw at_first (cond_below at (length bs) _ _ high)

@@ -1,6 +1,7 @@
 pub mod Examples
 pub mod FrontLemmas
 pub mod KindLemmas
+pub mod LabelLines
 pub mod LineLemmas
 pub mod LinePlaces
 pub mod Runs

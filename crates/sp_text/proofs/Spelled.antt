@@ -234,7 +234,7 @@ length-tokens bs = length-tokens_after 0 bs
 
 -- a name and a `:` are a label line
 
-name_bytes : (bs : List ℕ) → is_name bs ≡ true → list_all in_name bs ≡ true
+pub name_bytes : (bs : List ℕ) → is_name bs ≡ true → list_all in_name bs ≡ true
 name_bytes [] name = refl
 name_bytes (b ∷ bs) name = elim (or_cases (is_plain_name (b ∷ bs)) (is_numeral (b ∷ bs)) name) [
   | inl plain ↦ (let parts = and_parts (begins_name b) (list_all in_name bs) plain in
@@ -251,7 +251,7 @@ name_bytes (b ∷ bs) name = elim (or_cases (is_plain_name (b ∷ bs)) (is_numer
 in_name_small : (b : ℕ) → in_name b ≡ true → b < 256
 in_name_small b name = elim (or_cases (begins_name b) (is_ascii_digit b) name) [ inl begins ↦ name_small b begins | inr digit ↦ digit_small b digit ]
 
-no_colon : (bs : List ℕ) → list_all in_name bs ≡ true → list_all (λ b. not (is_colon b)) bs ≡ true
+pub no_colon : (bs : List ℕ) → list_all in_name bs ≡ true → list_all (λ b. not (is_colon b)) bs ≡ true
 no_colon [] all = refl
 no_colon (b ∷ bs) all =
     let parts = and_parts (in_name b) (list_all in_name bs) all in

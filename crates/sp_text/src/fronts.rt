@@ -6,7 +6,9 @@ ghost use Rattle.sp_text.specs.Bytes.{is_blank, after_blanks, begins_name, begin
 ghost use Rattle.sp_text.specs.Fronts.{IsLongestFront, HasNoFront};
 ghost use Rattle.sp_text.specs.Tokens.{front_of, are_digits, ends_quote, is_bang_end, is_ellipsis_end, is_name};
 
+use crate::bytes::{begins_name, begins_word, is_blank, is_in_name, is_in_word, is_mark};
 use crate::tokens::Kind;
+use memchr::memchr;
 
 // The longest token that begins with the byte `first`: its kind and its length.
 pub(crate) fn front(first: u8, rest: &[u8]) -> Option<(Kind, usize)>
@@ -113,7 +115,7 @@ pub(crate) fn after_blanks(bytes: &[u8]) -> &[u8]
 pub(crate) fn find(bytes: &[u8], byte: u8) -> Option<usize>
     ensures { result ≡ position (λ b. b == byte) bytes.now }
 {
-    bytes.iter().position(|b| *b == byte)
+    memchr(byte, bytes)
 }
 
 // How many blanks stand first.
@@ -146,43 +148,4 @@ fn name_len(bytes: &[u8]) -> usize
     ensures within { result ≤ length bytes.now }
 {
     bytes.iter().take_while(|b| is_in_name(**b)).count()
-}
-
-fn is_blank(b: u8) -> bool
-    ensures { result ≡ is_blank b }
-{
-    b == b' ' || b == b'\t'
-}
-
-fn begins_word(b: u8) -> bool
-    ensures { result ≡ begins_word b }
-{
-    b.is_ascii_alphabetic() || b == b'_'
-}
-
-fn is_in_word(b: u8) -> bool
-    ensures { result ≡ in_word b }
-{
-    begins_word(b) || b.is_ascii_digit() || b == b'.'
-}
-
-fn begins_name(b: u8) -> bool
-    ensures { result ≡ begins_name b }
-{
-    b.is_ascii_alphabetic() || matches!(b, b'-' | b'$' | b'.' | b'_')
-}
-
-fn is_mark(b: u8) -> bool
-    ensures { result ≡ is_mark b }
-{
-    matches!(
-        b,
-        b'(' | b')' | b'{' | b'}' | b'[' | b']' | b',' | b'=' | b':' | b'*'
-    )
-}
-
-fn is_in_name(b: u8) -> bool
-    ensures { result ≡ in_name b }
-{
-    begins_name(b) || b.is_ascii_digit()
 }

@@ -1,9 +1,9 @@
 ghost use Rattle.std.specs.Prelude.{◌≡◌};
 ghost use Rattle.std.specs.Option.{option_copied};
 ghost use Rattle.sp_text.specs.Labels.{label_of, label_in, is_metadata};
-ghost use Rattle.sp_text.specs.Tokens.{is_name, says_nothing};
+ghost use Rattle.sp_text.specs.Tokens.{says_nothing};
 
-use crate::fronts::{after, after_blanks, find, name_front};
+use crate::fronts::{after_blanks, name_front};
 use crate::lines::Line;
 
 impl<'a> Line<'a> {
@@ -30,22 +30,13 @@ impl<'a> Line<'a> {
 fn label_in(bytes: &[u8]) -> Option<&[u8]>
     ensures { option_copied result ≡ label_in bytes.now }
 {
-    let end = find(bytes, b':')?;
-    let (name, _) = bytes.split_at(end);
-    if is_name(name) && says_nothing(after(bytes, end + 1)) {
+    let end = name_front(bytes)?;
+    let (name, rest) = bytes.split_at(end);
+    let (first, more) = rest.split_first()?;
+    if *first == b':' && says_nothing(more) {
         Some(name)
     } else {
         None
-    }
-}
-
-// Whether the bytes are a name (LLVM Language Reference, "Identifiers") or a number without leading zeros.
-fn is_name(bytes: &[u8]) -> bool
-    ensures { result ≡ is_name bytes.now }
-{
-    match name_front(bytes) {
-        Some(len) => len == bytes.len(),
-        None => false,
     }
 }
 

@@ -1,6 +1,7 @@
 //! The lines of a text and the tokens of a line, as slices of the text. Nothing here takes memory.
 #![tactic(auto)]
 
+mod bytes;
 mod fronts;
 mod labels;
 mod lines;

@@ -25,36 +25,24 @@ fn put(operand: Operand, numbers: &mut Stream<'_>) -> Operand
     }
 }
 
-/// The operands, each value of them with the next number.
-pub(crate) fn filled(
-    alloc: Global,
-    operands: &[Operand],
-    numbers: &mut Stream<'_>,
-) -> Result<Operands, Memory>
-    ensures value { IfOk result (λ after. after.items ≡ filled numbers.old operands.now) }
-    ensures rest { IfOk result (λ _. numbers.new ≡ left numbers.old operands.now) }
+/// Gives each value among the operands the next number.
+pub(crate) fn fill(operands: &mut [Operand], numbers: &mut Stream<'_>)
+    ensures value { operands.new ≡ filled numbers.old operands.old }
+    ensures rest { numbers.new ≡ left numbers.old operands.old }
 {
-    let mut after = SmallVec::with_capacity(alloc, operands.len())?;
-    for operand in operands {
-        after.push(put(*operand, numbers))?;
+    for operand in operands.iter_mut() {
+        *operand = put(*operand, numbers);
     }
-    Ok(after)
 }
 
-/// The entries of a bundle, each value of them with the next number.
-pub(crate) fn filled_bundle(
-    alloc: Global,
-    bundle: &[(Ty, Operand)],
-    numbers: &mut Stream<'_>,
-) -> Result<Vec<(Ty, Operand)>, Memory>
-    ensures value { IfOk result (λ after. after.items ≡ filled_bundle numbers.old bundle.now) }
-    ensures rest { IfOk result (λ _. numbers.new ≡ left numbers.old (held_in bundle.now)) }
+/// Gives each value among the entries of a bundle the next number.
+pub(crate) fn fill_bundle(bundle: &mut [(Ty, Operand)], numbers: &mut Stream<'_>)
+    ensures value { bundle.new ≡ filled_bundle numbers.old bundle.old }
+    ensures rest { numbers.new ≡ left numbers.old (held_in bundle.old) }
 {
-    let mut after = Vec::with_capacity(alloc, bundle.len())?;
-    for (ty, operand) in bundle {
-        after.push((*ty, put(*operand, numbers)))?;
+    for entry in bundle.iter_mut() {
+        *entry = (entry.0, put(entry.1, numbers));
     }
-    Ok(after)
 }
 
 /// Values with these numbers, as operands.

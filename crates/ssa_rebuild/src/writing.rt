@@ -1,12 +1,12 @@
 //! The lines of the final text.
 
-ghost use Rattle.std.specs.Prelude.{◌≡◌, true, ◌++◌, [], ◌∷◌, ◌+◌, ◌-◌, ◌<◌, ◌^◌, if◌then◌else◌, length, decimal, IfOk};
+ghost use Rattle.std.specs.Prelude.{◌≡◌, true, ◌++◌, [], ◌∷◌, ◌+◌, ◌-◌, ◌<◌, ◌^◌, if◌then◌else◌, length, take, decimal, IfOk};
 ghost use Rattle.ir_ast.specs.declared.ops.Op.{Op};
 ghost use Rattle.rewriting_forms.specs.Numbered.{is_call};
 ghost use Rattle.ssa_rebuild.specs.Rows.{own_uses};
 ghost use Rattle.ssa_rebuild.specs.Written.{filled, left, results_in, phi_uses, entries_left, operands_written, plain_written, plain_left, call_written, call_left, group_at, counts_with, line_written, after, written, behind, phi_line, phi_after, phi_lines, phis_behind};
 
-use crate::filled::{filled, filled_bundle, values};
+use crate::filled::{fill, fill_bundle, values};
 use crate::lines::{is_call, is_phi};
 use crate::stream::Stream;
 use ir_ast::{Callee, Inst, Name, Op, Operand, Operands, Ty, Types};
@@ -110,49 +110,40 @@ fn push_line(
     if is_call(inst.op()) {
         return push_call(alloc, groups, inst, writing, lines);
     }
-    lines.push(plain(alloc, inst, &mut writing.body, &mut writing.entries)?)?;
+    lines.push(plain(inst, &mut writing.body, &mut writing.entries))?;
     Ok(())
 }
 
-fn plain(
-    alloc: Global,
-    inst: Inst,
-    body: &mut Stream<'_>,
-    entries: &mut Stream<'_>,
-) -> Result<Inst, Memory>
-    ensures line { IfOk result (λ line. line ≡ plain_written body.old entries.old inst) }
-    ensures body { IfOk result (λ _. body.new ≡ plain_left body.old inst) }
-    ensures entries { IfOk result (λ _. entries.new ≡ entries_left entries.old inst) }
+fn plain(inst: Inst, body: &mut Stream<'_>, entries: &mut Stream<'_>) -> Inst
+    ensures line { result ≡ plain_written body.old entries.old inst }
+    ensures body { body.new ≡ plain_left body.old inst }
+    ensures entries { entries.new ≡ entries_left entries.old inst }
 {
-    let operands = operands_of(alloc, &inst, body, entries)?;
-    let (named, op, ty, _old_operands, labels, old_bundle) = inst.into_parts();
-    let bundle = filled_bundle(alloc, old_bundle.as_slice(), body)?;
+    let (named, op, ty, mut operands, labels, mut bundle) = inst.into_parts();
+    fill_own(is_phi(&op), labels.len(), &mut operands, body, entries);
+    fill_bundle(bundle.as_mut_slice(), body);
     body.skip(results_in(&named));
-    Ok(Inst::of(named, op, ty, operands, labels, bundle))
+    Inst::of(named, op, ty, operands, labels, bundle)
 }
 
-fn operands_of(
-    alloc: Global,
-    inst: &Inst,
+// The operands of a phi that have labels, so many, over the numbers of entries, or those of another line over the block's.
+fn fill_own(
+    is_phi: bool,
+    count: usize,
+    operands: &mut Operands,
     body: &mut Stream<'_>,
     entries: &mut Stream<'_>,
-) -> Result<Operands, Memory>
-    ensures operands { IfOk result (λ after. after.items ≡ operands_written body.old entries.old inst.now) }
-    ensures body { IfOk result (λ _. body.new ≡ left body.old (own_uses inst.now)) }
-    ensures entries { IfOk result (λ _. entries.new ≡ entries_left entries.old inst.now) }
+)
+    ensures operands { operands.new.items ≡ (if is_phi then filled entries.old (take count operands.old.items) else filled body.old operands.old.items) }
+    ensures body { body.new ≡ left body.old (if is_phi then [] else operands.old.items) }
+    ensures entries { entries.new ≡ (if is_phi then left entries.old (take count operands.old.items) else entries.old) }
 {
-    if is_phi(inst.op()) {
-        return filled(alloc, phi_uses(inst), entries);
+    if is_phi {
+        operands.truncate(count);
+        fill(operands.as_mut_slice(), entries);
+    } else {
+        fill(operands.as_mut_slice(), body);
     }
-    filled(alloc, inst.operands(), body)
-}
-
-// The operands of a phi that have labels.
-fn phi_uses(inst: &Inst) -> &[Operand]
-    ensures { result.now ≡ phi_uses inst.now }
-{
-    let count = inst.labels().len().min(inst.operands().len());
-    &inst.operands()[..count]
 }
 
 fn results_in(named: &Option<Name>) -> usize
@@ -212,12 +203,12 @@ fn write_group(
     ensures lines { IfOk result (λ _. lines.new.items ≡ lines.old.items ++ call_written counts group.now body.old inst inst.op) }
     ensures body { IfOk result (λ _. body.new ≡ call_left (length group.now.relocates) body.old inst) }
 {
-    let (named, op, ty, old_operands, _labels, old_bundle) = inst.into_parts();
+    let (named, op, ty, mut operands, _labels, mut bundle) = inst.into_parts();
     let count = group.relocates().len();
     let results = results_in(&named);
-    let operands = filled(alloc, old_operands.as_slice(), body)?;
+    fill(operands.as_mut_slice(), body);
     let live = body.next_ones(alloc, count)?;
-    let bundle = filled_bundle(alloc, old_bundle.as_slice(), body)?;
+    fill_bundle(bundle.as_mut_slice(), body);
     let token = body.first();
     body.skip(1);
     body.skip(results);

@@ -1,9 +1,8 @@
 pub mod CaseLines
 pub mod LostNotes
 pub mod RowNotes
-pub mod Uncast
+pub mod BuiltText
 pub mod Contained
 pub mod Heads
 pub mod ScopeLemmas
 pub mod TextUnion
-pub mod Placing

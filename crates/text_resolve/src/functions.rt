@@ -4,18 +4,17 @@ ghost use Rattle.std.specs.Prelude.{◌≡◌, [], ◌++◌, map, flat_map, IfOk
 ghost use Rattle.std.specs.List.{All};
 ghost use Rattle.ir_ast.specs.Blocks.{EndsAtTerminator};
 ghost use Rattle.line_parts.specs.Seen.{seen_argument};
-ghost use Rattle.ir_lines.specs.Modules.{instruction_said, insts_of, numbers_of, block_of};
+ghost use Rattle.ir_lines.specs.Modules.{insts_of, numbers_of, block_of};
 ghost use Rattle.ir_lines.specs.Notes.{Notes};
 ghost use Rattle.ir_lines.specs.Scope.{scope_of};
 ghost use Rattle.ir_lines.specs.Sections.{arguments_named, blocks_of};
 ghost use Rattle.ir_lines.specs.Statements.{Line};
 ghost use Rattle.ir_lines.specs.Tables.{seen_definition, seen_block, IsTop};
-ghost use Rattle.ir_lines.specs.Views.{said, seen_lines};
-ghost use Rattle.ir_resolve.specs.Resolved.{uncast};
+ghost use Rattle.ir_lines.specs.Views.{seen_lines};
 ghost use Rattle.module_build.specs.Built.{known_with, lined_function};
 ghost use Rattle.module_build.specs.Known.{known_in};
 ghost use Rattle.module_build.specs.Placed.{IsPlacedFunction};
-ghost use Rattle.text_resolve.specs.Built.{uncast_lines, uncast_block, uncast_definition, FunctionsLost};
+ghost use Rattle.text_resolve.specs.Built.{FunctionsLost};
 ghost use Rattle.text_resolve.specs.Lost.{FunctionLost};
 ghost use Rattle.text_resolve.specs.Rows.{rows_of};
 
@@ -30,21 +29,6 @@ use ir_reader::{NumberedReading, Reading};
 use line_checks::lines::Scope as Judged;
 use module_build::build::{Scope, arguments_of, behind, keep, owned};
 use std::alloc::{AllocError, Global};
-
-// The instruction of a line, where it is one. A cast is a call that passes nothing.
-fn instruction(
-    scope: &Scope,
-    alloc: Global,
-    reading: &Reading,
-    behind: &[NumberedReading],
-) -> Result<Option<Inst>, AllocError>
-    ensures { IfOk result (λ made. made ≡ instruction_said (known_in scope.now) (uncast_lines (seen_lines behind.now)) (uncast (said reading.now))) }
-{
-    match reading {
-        Reading::Cast { result, to, .. } => scope.call(alloc, Some(*result), *to, &[], &[]),
-        _ => scope.instruction(alloc, reading, behind),
-    }
-}
 
 // The room for the instructions of the lines of a block; behind a `switch` stand its cases, which are none.
 fn room_for(lines: &[NumberedReading]) -> usize {
@@ -61,13 +45,13 @@ fn insts(
     lines: &[NumberedReading],
     numbers: &mut Vec<u32>,
 ) -> Result<Vec<Inst>, AllocError>
-    ensures insts { IfOk result (λ insts. insts.items ≡ insts_of (known_in scope.now) (uncast_lines (seen_lines lines.now))) }
+    ensures insts { IfOk result (λ insts. insts.items ≡ insts_of (known_in scope.now) (seen_lines lines.now)) }
     ensures numbers { OnOk result (numbers.new.items
-        ≡ numbers.old.items ++ numbers_of (known_in scope.now) (uncast_lines (seen_lines lines.now))) }
+        ≡ numbers.old.items ++ numbers_of (known_in scope.now) (seen_lines lines.now)) }
 {
     let mut insts = Vec::with_capacity(alloc, room_for(lines))?;
     for (i, line) in lines.iter().enumerate() {
-        let made = instruction(scope, alloc, &line.reading, behind(lines, i))?;
+        let made = scope.instruction(alloc, &line.reading, behind(lines, i))?;
         keep(&mut insts, numbers, line.line, made)?;
     }
     Ok(insts)
@@ -80,13 +64,13 @@ fn block(
     block: &BlockLines,
     numbers: &mut Vec<u32>,
 ) -> Result<Block, AllocError>
-    requires { EndsAtTerminator (insts_of (known_in scope.now) (uncast_lines (seen_lines block.now.lines.now))) }
+    requires { EndsAtTerminator (insts_of (known_in scope.now) (seen_lines block.now.lines.now)) }
     ensures block { IfOk result (λ made. made ≡ record {
       name = block.now.name.now;
-      insts = insts_of (known_in scope.now) (uncast_lines (seen_lines block.now.lines.now));
+      insts = insts_of (known_in scope.now) (seen_lines block.now.lines.now);
     }) }
     ensures numbers { OnOk result (numbers.new.items
-        ≡ numbers.old.items ++ numbers_of (known_in scope.now) (uncast_lines (seen_lines block.now.lines.now))) }
+        ≡ numbers.old.items ++ numbers_of (known_in scope.now) (seen_lines block.now.lines.now)) }
 {
     let insts = insts(scope, alloc, block.lines, numbers)?;
     let name = owned(alloc, block.name)?;
@@ -100,10 +84,10 @@ fn built_blocks(
     blocks: &[BlockLines],
     numbers: &mut Vec<u32>,
 ) -> Result<Vec<Block>, AllocError>
-    requires { All (λ block. EndsAtTerminator (insts_of (known_in scope.now) block.lines)) (map uncast_block (map seen_block blocks.now)) }
-    ensures blocks { IfOk result (λ built. built.items ≡ map (block_of (known_in scope.now)) (map uncast_block (map seen_block blocks.now))) }
+    requires { All (λ block. EndsAtTerminator (insts_of (known_in scope.now) block.lines)) (map seen_block blocks.now) }
+    ensures blocks { IfOk result (λ built. built.items ≡ map (block_of (known_in scope.now)) (map seen_block blocks.now)) }
     ensures numbers { OnOk result (numbers.new.items ≡ numbers.old.items
-        ++ flat_map (λ block. numbers_of (known_in scope.now) block.lines) (map uncast_block (map seen_block blocks.now))) }
+        ++ flat_map (λ block. numbers_of (known_in scope.now) block.lines) (map seen_block blocks.now)) }
 {
     let mut built = Vec::with_capacity(alloc, blocks.len())?;
     for one in blocks {
@@ -124,8 +108,8 @@ fn function(
     requires names { map (λ n. n.items) names.now.arguments.items
         ≡ map (λ one. one.name) (arguments_named func.now.line [] (map seen_argument func.now.arguments.now)) }
     requires blocks { map seen_block blocks.now ≡ blocks_of (seen_definition func.now) }
-    requires placed { IsPlacedFunction (known_in scope.now) (uncast_definition (seen_definition func.now)) }
-    ensures { IfOk result (λ made. made ≡ lined_function (known_in scope.now) (uncast_definition (seen_definition func.now))) }
+    requires placed { IsPlacedFunction (known_in scope.now) (seen_definition func.now) }
+    ensures { IfOk result (λ made. made ≡ lined_function (known_in scope.now) (seen_definition func.now)) }
 {
     let mut numbers = Vec::new(alloc);
     let built = built_blocks(scope, alloc, blocks, &mut numbers)?;
@@ -150,8 +134,8 @@ fn resolve_function(
     func: &Definition,
     first: &mut First,
 ) -> Result<Built, AllocError>
-    requires { let own = uncast_definition (seen_definition func.now) in IsPlacedFunction (known_with top.now own) own }
-    ensures func { let own = uncast_definition (seen_definition func.now) in
+    requires { let own = seen_definition func.now in IsPlacedFunction (known_with top.now own) own }
+    ensures func { let own = seen_definition func.now in
         IfOk result (λ built. built.func ≡ lined_function (known_with top.now own) own) }
     ensures cases { IfOk result (λ built. built.cases ≡ rows_of (seen_definition func.now).body) }
     ensures noted { (lines : List Line) → IsTop lines top.now → OnOk result (Notes first.old.found first.new.found
@@ -182,9 +166,9 @@ pub(crate) fn resolve_functions(
     cases: &mut Vec<CaseLines>,
     first: &mut First,
 ) -> Result<(), AllocError>
-    requires { All (λ func. IsPlacedFunction (known_with top.now func) func) (map uncast_definition (map seen_definition funcs.now)) }
+    requires { All (λ func. IsPlacedFunction (known_with top.now func) func) (map seen_definition funcs.now) }
     ensures funcs { OnOk result (made.new.items ≡ made.old.items
-        ++ map (λ func. lined_function (known_with top.now func) func) (map uncast_definition (map seen_definition funcs.now))) }
+        ++ map (λ func. lined_function (known_with top.now func) func) (map seen_definition funcs.now)) }
     ensures cases { OnOk result (cases.new.items ≡ cases.old.items ++ map (λ func. rows_of func.body) (map seen_definition funcs.now)) }
     ensures noted { (lines : List Line) → IsTop lines top.now
         → OnOk result (Notes first.old.found first.new.found (FunctionsLost form lines (map seen_definition funcs.now))) }

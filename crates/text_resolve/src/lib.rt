@@ -8,7 +8,6 @@ ghost use Rattle.ir_ast.specs.declared.modules.Form.{Form};
 ghost use Rattle.ir_lines.specs.Statements.{Line};
 ghost use Rattle.ir_lines.specs.TextLines.{IsTextLines};
 ghost use Rattle.module_build.specs.Placed.{IsPlaced};
-ghost use Rattle.text_resolve.specs.Built.{uncast_lines};
 
 mod bodies;
 mod functions;
@@ -19,5 +18,5 @@ pub use texts::{Resolution, resolve};
 
 /// The law that the lines of each text that was read can be resolved.
 pub fn read_lines_are_placed()
-    ensures { (form : Form) (lines : List Line) → IsTextLines form lines → IsPlaced (uncast_lines lines) }
+    ensures { (form : Form) (lines : List Line) → IsTextLines form lines → IsPlaced lines }
 {}

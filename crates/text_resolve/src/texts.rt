@@ -6,7 +6,6 @@ ghost use Rattle.ir_lines.specs.Views.{seen_lines};
 ghost use Rattle.ir_resolve.specs.Resolved.{resolved};
 ghost use Rattle.ir_resolve.specs.TextFaults.{HasTextFault};
 ghost use Rattle.module_build.specs.Placed.{IsPlaced};
-ghost use Rattle.text_resolve.specs.Built.{uncast_lines};
 
 use crate::functions::resolve_functions;
 use case_lines::CaseLines;
@@ -34,7 +33,7 @@ pub struct Resolution {
 
 /// Resolves the lines of a text in this form, which stand in their places.
 pub fn resolve(alloc: Global, form: Form, lines: &[NumberedReading]) -> Result<Resolution, Memory>
-    requires { IsPlaced (uncast_lines (seen_lines lines.now)) }
+    requires { IsPlaced (seen_lines lines.now) }
     ensures whole { IfOk result (λ text. text.whole ≡ (resolved form (seen_lines lines.now)).whole) }
     ensures cases { IfOk result (λ text. text.cases.items ≡ (resolved form (seen_lines lines.now)).cases) }
     ensures fault { IfOk result (λ text. Notes None text.fault (λ line code. HasTextFault form (seen_lines lines.now) line code)) }

@@ -1,5 +1,5 @@
 -- The module of a text without a fault is one of its form, without bundles.
-use Rattle.std.proofs.Common.{◌≡◌, ◌⊎◌, ℕ, List, inl, inr, refl, sym, ap, subst}
+use Rattle.std.proofs.Common.{◌≡◌, ◌⊎◌, ℕ, List, inl, inr, refl}
 use Rattle.std.specs.Prelude.{Some, slice_get}
 use Rattle.std.specs.List.{All}
 use Rattle.std.proofs.lemmas.List.Elements.{All-weaker}
@@ -15,14 +15,11 @@ use Rattle.ir_cfg.specs.Paths.{Path}
 use Rattle.ir_lines.specs.Modules.{module_of}
 use Rattle.ir_resolve.specs.FaultSet.{HasNoResolvedFault}
 use Rattle.ir_lines.specs.Statements.{Line, lines_of}
-use Rattle.ir_lines.specs.Views.{seen_lines}
-use Rattle.ir_reader.specs.Raws.{Readings}
 use Rattle.ir_types.specs.FaultSet.{HasNoFault, plain, not_definite}
 use Rattle.module_laws.specs.TextFunctions.{IsTextFunction}
-use Rattle.module_laws.proofs.TypedTexts.{whole_functions, whole_typed}
+use Rattle.module_laws.proofs.TypedTexts.{text_made, text_typed}
 use Rattle.read_back.specs.AcceptedTexts.{AcceptedIsOf}
 use Rattle.read_back.proofs.accepted_texts.Decided.{meets_or_not}
-use Rattle.read_back.proofs.accepted_texts.Reading.{was_read}
 
 -- ---- uses are definite where no path misses a definition
 
@@ -52,14 +49,9 @@ module _ (form : Form) (lines : List Line) (none : HasNoFault form lines) where
 
 pub accepted_is_of : (form : Form) → AcceptedIsOf form
 accepted_is_of form text readings small read none =
-    let lines = lines_of readings in
-    let was = was_read form text readings small read in
-    let whole = module_of form lines in
-    let raw : Readings = record { text = text; form = form; lines = was.found } in
-    let is : whole ≡ module_of form (seen_lines was.found) = ap (λ (now : List Line). module_of form now) (sym was.lines) in
-    let clean : HasNoResolvedFault form (seen_lines was.found) = subst (λ (now : List Line). HasNoResolvedFault form now) (sym was.lines) (no_plain form lines none) in (
-      record { typed = whole_typed raw was.read whole is clean; definite = all_definite form lines none },
-      All-weaker IsTextFunction HasNoBundle (λ func own. own.no_bundle) whole.content.funcs (whole_functions raw was.read whole is clean),
+    let clean : HasNoResolvedFault form (lines_of readings) = no_plain form (lines_of readings) none in (
+      record { typed = text_typed form text readings small read clean; definite = all_definite form (lines_of readings) none },
+      All-weaker IsTextFunction HasNoBundle (λ func own. own.no_bundle) (module_of form (lines_of readings)).content.funcs (text_made form text readings small read clean),
     )
 
 pub accepted_is_source : AcceptedIsOf Source

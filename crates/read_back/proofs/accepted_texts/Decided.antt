@@ -11,6 +11,9 @@ use Rattle.ir_cfg.specs.DefiniteUses.{Defines, Meets, in_arguments, in_earlier, 
 use Rattle.ir_cfg.specs.Graphs.{Graph, graph_of}
 use Rattle.ir_cfg.specs.Paths.{Path, at_entry, along}
 
+abbrev Decided : Type 0 → Type 0
+Decided P = P ⊎ (¬ P)
+
 less_or_not : (n m : ℕ) → (n < m) ⊎ (m ≤ n)
 less_or_not n m = by (cases_order n m)
   where
@@ -18,9 +21,6 @@ less_or_not n m = by (cases_order n m)
     by (inl same) = inr (omega (arith, same))
     by (inr (inl below)) = inl below
     by (inr (inr above)) = inr (omega (arith, above))
-
-abbrev Decided : Type 0 → Type 0
-Decided P = P ⊎ (¬ P)
 
 same_one : {A : Type 0} (x y : A) → Some x ≡ Some y → x ≡ y
 same_one x y e = cc

@@ -1,5 +1,5 @@
-use Rattle.text_resolve.proofs.Placing.{resolved-placed}
+use Rattle.module_build.proofs.Placing.{read-placed}
 use Rattle.text_resolve.proofs.read_lines_are_placed.Goals as goal
 
 pub returns : goal.returns
-returns c = resolved-placed
+returns c = read-placed

@@ -5,11 +5,10 @@ use Rattle.ir_reader.specs.declared.raw.NumberedReading.{NumberedReading}
 use Rattle.ir_lines.specs.declared.faults.Fault.{Fault}
 use Rattle.ir_lines.specs.Notes.{Notes}
 use Rattle.ir_lines.specs.Views.{seen_lines}
-use Rattle.ir_resolve.specs.Resolved.{uncast_line}
 use Rattle.ir_resolve.specs.FaultSet.{HasResolvedFault}
 use Rattle.module_build.specs.Placed.{IsPlaced}
 use Rattle.module_laws.proofs.ReadTexts.{read-lines}
-use Rattle.text_resolve.proofs.Placing.{resolved-placed}
+use Rattle.module_build.proofs.Placing.{read-placed}
 use Rattle.ir_lines.proofs.NoteLemmas.{notes-least}
 use Rattle.ir_types.proofs.AnswerLaws.{text-noted, text-unbroken, text-module, formed-text, answers-paths, module-paths, kept-paths, functions-paths}
 use Rattle.ir_types.proofs.PathLaw.{plain-least}
@@ -17,8 +16,8 @@ use Rattle.ir_types.proofs.typing.checked.Goals as goal
 
 pub resolve-requires : goal.resolve-requires
 resolve-requires c =
-    subst (λ (rs : List NumberedReading). IsPlaced (map uncast_line (seen_lines rs))) (sym c.lines.ensures.lines)
-    (resolved-placed c.args.raw.now.form (seen_lines c.args.raw.now.lines) (read-lines c.args.raw.now c.lines.ensures.read))
+    subst (λ (rs : List NumberedReading). IsPlaced (seen_lines rs)) (sym c.lines.ensures.lines)
+    (read-placed c.args.raw.now.form (seen_lines c.args.raw.now.lines) (read-lines c.args.raw.now c.lines.ensures.read))
 
 pub with_paths-requires : goal.with_paths-requires
 with_paths-requires c =
@@ -26,7 +25,7 @@ with_paths-requires c =
     c.in_ok-text.text.whole c.in_ok-text.text.cases.items c.as_slice.result.now c.in_ok-text.ensures.whole c.in_ok-text.ensures.cases c.as_slice.ensures.value
     c.in_ok-text.ensures.fault c.in_ok-fault.ensures in
     let none = text-unbroken c.args.raw.now c.in_ok-fault.field-0 c.in-None.is noted in
-    let is = text-module c.args.raw.now c.form.result c.lines.result.now c.form.ensures c.lines.ensures.lines c.in_ok-text.text.whole none
+    let is = text-module c.args.raw.now c.form.result c.lines.result.now c.form.ensures c.lines.ensures.lines c.in_ok-text.text.whole
     c.in_ok-text.ensures.whole in
     formed-text c.args.raw.now c.lines.ensures.read c.in_ok-text.text.whole is none
 
@@ -47,7 +46,7 @@ returns-in-None-clause-answers c =
     c.in_ok-text.text.whole c.in_ok-text.text.cases.items c.as_slice.result.now c.in_ok-text.ensures.whole c.in_ok-text.ensures.cases c.as_slice.ensures.value
     c.in_ok-text.ensures.fault c.in_ok-fault.ensures in
     let none = text-unbroken c.args.raw.now c.in_ok-fault.field-0 c.in-None.is noted in
-    let is = text-module c.args.raw.now c.form.result c.lines.result.now c.form.ensures c.lines.ensures.lines c.in_ok-text.text.whole none
+    let is = text-module c.args.raw.now c.form.result c.lines.result.now c.form.ensures c.lines.ensures.lines c.in_ok-text.text.whole
     c.in_ok-text.ensures.whole in
     answers-paths c.args.raw.now c.lines.ensures.read c.in_ok-text.text.whole is none c.with_paths.result c.with_paths.ensures
 
@@ -57,7 +56,7 @@ returns-in-None-clause-module c =
     c.in_ok-text.text.whole c.in_ok-text.text.cases.items c.as_slice.result.now c.in_ok-text.ensures.whole c.in_ok-text.ensures.cases c.as_slice.ensures.value
     c.in_ok-text.ensures.fault c.in_ok-fault.ensures in
     let none = text-unbroken c.args.raw.now c.in_ok-fault.field-0 c.in-None.is noted in
-    let is = text-module c.args.raw.now c.form.result c.lines.result.now c.form.ensures c.lines.ensures.lines c.in_ok-text.text.whole none
+    let is = text-module c.args.raw.now c.form.result c.lines.result.now c.form.ensures c.lines.ensures.lines c.in_ok-text.text.whole
     c.in_ok-text.ensures.whole in
     module-paths c.args.raw.now c.lines.ensures.read c.in_ok-text.text.whole is none c.with_paths.result c.with_paths.ensures
 
@@ -67,7 +66,7 @@ returns-in-None-clause-text c =
     c.in_ok-text.text.whole c.in_ok-text.text.cases.items c.as_slice.result.now c.in_ok-text.ensures.whole c.in_ok-text.ensures.cases c.as_slice.ensures.value
     c.in_ok-text.ensures.fault c.in_ok-fault.ensures in
     let none = text-unbroken c.args.raw.now c.in_ok-fault.field-0 c.in-None.is noted in
-    let is = text-module c.args.raw.now c.form.result c.lines.result.now c.form.ensures c.lines.ensures.lines c.in_ok-text.text.whole none
+    let is = text-module c.args.raw.now c.form.result c.lines.result.now c.form.ensures c.lines.ensures.lines c.in_ok-text.text.whole
     c.in_ok-text.ensures.whole in
     functions-paths c.args.raw.now c.lines.ensures.read c.in_ok-text.text.whole is none c.with_paths.result c.with_paths.ensures
 
@@ -77,7 +76,7 @@ returns-in-None-clause-formed c =
     c.in_ok-text.text.whole c.in_ok-text.text.cases.items c.as_slice.result.now c.in_ok-text.ensures.whole c.in_ok-text.ensures.cases c.as_slice.ensures.value
     c.in_ok-text.ensures.fault c.in_ok-fault.ensures in
     let none = text-unbroken c.args.raw.now c.in_ok-fault.field-0 c.in-None.is noted in
-    let is = text-module c.args.raw.now c.form.result c.lines.result.now c.form.ensures c.lines.ensures.lines c.in_ok-text.text.whole none
+    let is = text-module c.args.raw.now c.form.result c.lines.result.now c.form.ensures c.lines.ensures.lines c.in_ok-text.text.whole
     c.in_ok-text.ensures.whole in
     kept-paths (λ whole. IsFormedModule whole.content) c.in_ok-text.text.whole
     (formed-text c.args.raw.now c.lines.ensures.read c.in_ok-text.text.whole is none) c.with_paths.result c.with_paths.ensures

@@ -40,8 +40,8 @@ loop-place-init c =
     record {
       within = omega arith;
       next = c.after-next.ensures ∙ sym (ap (after_all c.args.first) (taken_whole c.insts-insts.result.now));
-      at = subst (λ (is : List Instruction). AtPlace func c.args.bases.now c.args.marks.now c.args.number (length is) c.in_ok-set.set c.args.lists.now.items c.args.lists.now.items) insts
-          (begun func c.args.bases.now c.args.marks.now c.requires.marks c.args.number c.args.ends.now c.in_ok-set.set c.args.lists.now.items c.requires.ends c.in_ok-set.ensures);
+      at = subst (λ (is : List Instruction). AtPlace func c.args.bases.now c.args.marks.now c.args.number (length is) c.fill.new.set c.args.lists.now.items c.args.lists.now.items) insts
+          (begun func c.args.bases.now c.args.marks.now c.requires.marks c.args.number c.args.ends.now c.fill.new.set c.args.lists.now.items c.requires.ends c.in_ok-fill.ensures);
     }
 
 pub before-next-requires : goal.before-next-requires

@@ -65,5 +65,5 @@ loop-number-preserved c =
 
 pub returns : goal.returns
 returns c =
-    c.of.ensures ∙ whole c.args.func.now.content c.bases-table.result.now c.loop-number.number c.loop-number.lists.items c.reverse.new.self.items (omega (arith, c.loop-number-test.false))
+    c.of-2.ensures ∙ whole c.args.func.now.content c.bases-table.result.now c.loop-number.number c.loop-number.lists.items c.reverse.new.self.items (omega (arith, c.loop-number-test.false))
     c.loop-number.invariant.lists c.reverse.ensures.items ∙ ap (λ table. map (map valued) (live_lists c.args.func.now.content table)) c.bases-table.ensures

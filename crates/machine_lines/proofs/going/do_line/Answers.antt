@@ -1,4 +1,4 @@
-use Rattle.std.proofs.Common.{◌≡◌, ℕ, ◌+◌, List, sym, ap, ◌∙◌}
+use Rattle.std.proofs.Common.{◌≡◌, sym, ap, ◌∙◌}
 use Rattle.std.specs.Prelude.{false, true, is_some}
 use Rattle.machine_lines.specs.declared.decoded.Decoded.{Decoded}
 use Rattle.machine_lines.proofs.GoingLemmas.{done_line, gives_lines}

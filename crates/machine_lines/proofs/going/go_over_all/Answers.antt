@@ -1,6 +1,5 @@
-use Rattle.std.proofs.Common.{◌≡◌, ℕ, ◌+◌, ◌<◌, ◌≤◌, false, List, length, map, drop, sym, ap, subst, ◌∙◌, arith}
+use Rattle.std.proofs.Common.{◌≡◌, ℕ, ◌<◌, length, map, drop, subst, ◌∙◌, arith}
 use Rattle.ir_ast.specs.Objects.{number}
-use Rattle.machine_meaning.specs.Machines.{Machine, Machinery}
 use Rattle.flat_code.proofs.RegisterLemmas.{rest_at}
 use Rattle.machine_lines.specs.Going.{GoesOver, stood}
 use Rattle.machine_lines.specs.Lines.{lines_left}

@@ -1,7 +1,6 @@
-use Rattle.std.proofs.Common.{◌≡◌, List, sym, ap, ◌∙◌, subst}
+use Rattle.std.proofs.Common.{List, sym, ap, ◌∙◌, subst}
 use Rattle.ir_ast.specs.declared.ops.Callee.{Callee}
 use Rattle.ir_ast.specs.declared.ops.Op.TheVariants.{Call}
-use Rattle.ir_ast.specs.Layouts.{ObjectLayout}
 use Rattle.moving_heap.specs.Contents.{Content}
 use Rattle.moving_heap.specs.Heaps.{HeapView, loaded}
 use Rattle.moving_heap.specs.Places.{owner}

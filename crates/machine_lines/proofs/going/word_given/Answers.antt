@@ -5,7 +5,7 @@ use Rattle.machine_lines.proofs.going.word_given.Goals as goal
 pub returns-then-one : goal.returns-then-one
 returns-then-one c =
     numbers_do c.args.layouts.now c.args.inst.now c.args.registers.now c.args.heap.now c.args.one.now c.op.result.now c.ty.result.now c.outcome.result
-    c.requires c.op.ensures c.ty.ensures c.outcome.ensures.plain c.outcome.ensures.few c.outcome.ensures.value
+    c.requires c.op.ensures c.ty.ensures c.outcome.ensures.plain c.outcome.ensures.value
 
 pub returns-in-Gep : goal.returns-in-Gep
 returns-in-Gep c =

@@ -1,6 +1,6 @@
 use Rattle.std.proofs.Common.{◌≡◌, ◌<◌, ◌++◌, ◌∷◌, [], List, true, length, take, map, sym, ap, ◌∙◌, arith}
 use Rattle.std.specs.Result.{is_ok}
-use Rattle.std.proofs.lemmas.List.{map_more, take_all, length-map, length-take}
+use Rattle.std.proofs.lemmas.List.{map_more, length-map, length-take}
 use Rattle.moving_heap.specs.declared.stands.Stand.{Stand}
 use Rattle.moving_heap.specs.declared.stands.Moved.{Moved}
 use Rattle.moving_heap.specs.Orders.{resting, nowhere}

@@ -1,16 +1,11 @@
-use Rattle.std.proofs.Common.{◌+◌, ◌++◌, ℕ, List, Result, Ok, Err, OnOk, OnErr, is_some, drop, sym, subst, ◌∙◌, ap, arith}
+use Rattle.std.proofs.Common.{◌+◌, ◌++◌, ℕ, List, is_some, drop, sym, subst, ◌∙◌, ap, arith}
 use Rattle.std.specs.List.{All}
-use Rattle.std.proofs.lemmas.Result.{on_ok_weaker, on_err_weaker}
 use Rattle.ir_ast.specs.Funcs.{instructions_of}
 use Rattle.print_tables.specs.Waypoints.{IsWaypoint, StandBefore}
 use Rattle.print_tables.specs.declared.waypoints.Waypoint.{Waypoint}
-use Rattle.print_tables.proofs.WaypointLemmas.{IsWaypoint-here, All-more_waypoint, StandBefore-some, StandBefore-none}
+use Rattle.print_tables.proofs.WaypointLemmas.{IsWaypoint-here, StandBefore-some, StandBefore-none}
 use Rattle.print_tables.proofs.waypoints.waypoints_of.Goals as goal
-use Rattle.print_tables.proofs.waypoints.waypoints_of.Goals.{then-until-eq0, else-until-eq0, then-is_some+in-Some, else-is_some}
-
-either_way : {T E P : Type 0} (result : Result T E) → OnOk result P → OnErr result P → P
-either_way (Ok x) fact none = fact
-either_way (Err e) none fact = fact
+use Rattle.print_tables.proofs.waypoints.waypoints_of.Goals.{then-is_some+in-Some, else-is_some}
 
 pub loop-inst-preserved : goal.loop-inst-preserved
 loop-inst-preserved c =
@@ -19,18 +14,13 @@ loop-inst-preserved c =
     let counted : ℕ → Type 0 = λ results. StandBefore (instructions_of c.args.blocks.now) (drop (c.loop-inst.inst + 1) c.insts-line-items.result.now ++ later) results in
     record {
       all =
-          elim c.if-until-eq0.branch [
-            | then-until-eq0 w ↦
+          elim c.if-is_some.branch [
+            | then-is_some+in-Some w ↦
                 subst known (sym (ap (λ waypoints. waypoints.items) w.waypoints-is))
-                (either_way w.try_push.result
-                (on_ok_weaker w.try_push.result
-                (λ items. subst known (sym items)
-                (All-more_waypoint c.args.blocks.now c.loop-inst.waypoints.items _ c.loop-inst.invariant.all
+                (w.add.ensures c.args.blocks.now c.loop-inst.invariant.all
                 (IsWaypoint-here c.args.blocks.now c.loop-block.block c.loop-inst.inst c.loop-inst.results c.index-blocks-block.result c.insts-line-items.result.now
-                (omega arith) c.index-blocks-block.is c.insts-line-items.ensures.value c.loop-inst.invariant.before)))
-                w.try_push.ensures.ok)
-                (on_err_weaker w.try_push.result (λ same. subst known (sym (ap (λ waypoints. waypoints.items) same)) c.loop-inst.invariant.all) w.try_push.ensures.err))
-            | else-until-eq0 w ↦ subst known (sym (ap (λ waypoints. waypoints.items) w.waypoints-is)) c.loop-inst.invariant.all
+                (omega arith) c.index-blocks-block.is c.insts-line-items.ensures.value c.loop-inst.invariant.before))
+            | else-is_some w ↦ subst known (sym (ap (λ waypoints. waypoints.items) w.waypoints-is)) c.loop-inst.invariant.all
           ];
       before =
           elim c.if-is_some.branch [

@@ -1,26 +1,27 @@
-use Rattle.std.proofs.Common.{◌∙◌, sym, ap}
-use Rattle.sp_text.specs.Labels.{is_colon}
-use Rattle.sp_text.specs.Tokens.{is_name, says_nothing}
-use Rattle.sp_text.proofs.FrontLemmas.{position-tells}
-use Rattle.sp_text.proofs.LineLemmas.{label-none, label-some, label-no_name, label-more}
+use Rattle.std.proofs.Common.{◌∙◌, sym}
+use Rattle.std.proofs.lemmas.List.{nil_from_length}
+use Rattle.sp_text.proofs.LabelLines.{label-front, label-said, label-whole, label-other}
 use Rattle.sp_text.proofs.labels.label_in.Goals as goal
-use Rattle.sp_text.proofs.labels.label_in.Goals.{else-is_name-via-then-is_name+else-says_nothing, else-is_name-via-else-is_name}
+use Rattle.sp_text.proofs.labels.label_in.Goals.{else-first-eq58-via-then-first-eq58+else-says_nothing, else-first-eq58-via-else-first-eq58}
 
-pub returns-in_err-end : goal.returns-in_err-end
-returns-in_err-end c =
-    rw c.from_residual.ensures
-    (sym (label-none _ (position-tells is_colon c.args.bytes.now _ (sym c.in_err-end.was ∙ c.find.ensures))))
+pub returns-in_err-first : goal.returns-in_err-first
+returns-in_err-first c =
+    rw c.from_residual-in_err-first.ensures
+    (sym (label-whole _ c.in_ok-end.end c.in_ok-end.ensures (sym c.split_at.ensures.back ∙ nil_from_length _ c.in_err-first.ensures.cases)))
 
 pub returns-then-says_nothing : goal.returns-then-says_nothing
 returns-then-says_nothing c =
-    let at = position-tells is_colon c.args.bytes.now _ (sym c.in_ok-end.was ∙ c.find.ensures) in
+    let rest = rw c.if-first-eq58.true at c.in_ok-first.ensures.cases.0 in
     rw c.split_at.ensures.front
-    (sym (label-some _ c.in_ok-end.end at.0 at.1 (ap is_name (sym c.split_at.ensures.front) ∙ sym c.if-is_name.ensures) (ap says_nothing (sym c.after.ensures) ∙ sym c.if-says_nothing.ensures)))
+    (sym (label-front _ _ c.in_ok-end.end c.in_ok-end.ensures (sym c.split_at.ensures.back ∙ rest) (sym c.if-says_nothing.ensures)))
 
-pub returns-else-is_name : goal.returns-else-is_name
-returns-else-is_name c =
-    let at = position-tells is_colon c.args.bytes.now _ (sym c.in_ok-end.was ∙ c.find.ensures) in
-    elim c.else-is_name.branch [
-      | else-is_name-via-then-is_name+else-says_nothing w ↦ sym (label-more _ c.in_ok-end.end at.0 at.1 (ap says_nothing (sym w.after.ensures) ∙ sym w.if-says_nothing.ensures))
-      | else-is_name-via-else-is_name w ↦ sym (label-no_name _ c.in_ok-end.end at.0 at.1 (ap is_name (sym c.split_at.ensures.front) ∙ sym w.if-is_name.ensures))
+pub returns-else-first-eq58 : goal.returns-else-first-eq58
+returns-else-first-eq58 c =
+    let rest = c.in_ok-first.ensures.cases.0 in
+    elim c.else-first-eq58.branch [
+      | else-first-eq58-via-then-first-eq58+else-says_nothing w ↦
+          (let colon_rest = rw w.if-first-eq58.true at rest in
+          sym (label-said _ _ c.in_ok-end.end c.in_ok-end.ensures (sym c.split_at.ensures.back ∙ colon_rest) (sym w.if-says_nothing.ensures)))
+      | else-first-eq58-via-else-first-eq58 w ↦
+          sym (label-other _ _ _ c.in_ok-end.end c.in_ok-end.ensures (sym c.split_at.ensures.back ∙ rest) w.if-first-eq58.false)
     ]

@@ -6,7 +6,7 @@ use Rattle.ir_resolve.specs.Resolved.{case_lines}
 use Rattle.line_checks.specs.LineFaults.{tables_in}
 use Rattle.text_resolve.proofs.LostNotes.{notes-line}
 use Rattle.text_resolve.proofs.ScopeLemmas.{always}
-use Rattle.text_resolve.proofs.Uncast.{if-ok}
+use Rattle.text_resolve.proofs.BuiltText.{if-ok}
 use Rattle.text_resolve.proofs.bodies.note_one.Goals as goal
 
 pub returns-clause-cases : goal.returns-clause-cases

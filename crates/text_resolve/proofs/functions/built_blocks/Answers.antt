@@ -5,28 +5,26 @@ use Rattle.ir_lines.specs.declared.sections.BlockLines.{BlockLines as BlockTable
 use Rattle.ir_lines.specs.Sections.{BlockLines}
 use Rattle.ir_lines.specs.Tables.{seen_block}
 use Rattle.ir_lines.specs.Modules.{block_of, insts_of, numbers_of}
-use Rattle.ir_lines.proofs.Steps.{made-more}
+use Rattle.ir_lines.proofs.Steps.{all-at, made-more}
 use Rattle.module_build.specs.Known.{known_in}
-use Rattle.text_resolve.specs.Built.{uncast_block}
-use Rattle.text_resolve.proofs.Uncast.{all-twice}
 use Rattle.text_resolve.proofs.functions.built_blocks.Goals as goal
 
 pub block-requires : goal.block-requires
 block-requires c =
-    all-twice (λ (one : BlockLines). EndsAtTerminator (insts_of (known_in c.args.scope.now) one.lines)) uncast_block seen_block c.args.blocks.now
+    all-at (λ (one : BlockLines). EndsAtTerminator (insts_of (known_in c.args.scope.now) one.lines)) seen_block c.args.blocks.now
     c.loop-one.one-index c.one-item.result c.requires c.loop-one-test.true c.one-item.is
 
 pub loop-one-preserved : goal.loop-one-preserved
 loop-one-preserved c = record {
-  made = made-more (λ (bs : List BlockTable). map (block_of (known_in c.args.scope.now)) (map uncast_block (map seen_block bs)))
-      (λ (one : BlockTable). block_of (known_in c.args.scope.now) (uncast_block (seen_block one)) ∷ []) (λ x xs. refl) c.args.blocks.now
+  made = made-more (λ (bs : List BlockTable). map (block_of (known_in c.args.scope.now)) (map seen_block bs))
+      (λ (one : BlockTable). block_of (known_in c.args.scope.now) (seen_block one) ∷ []) (λ x xs. refl) c.args.blocks.now
       c.loop-one.one-index c.one-item.result c.loop-one.built.items c.push.new.self.items
-      (map (block_of (known_in c.args.scope.now)) (map uncast_block (map seen_block c.args.blocks.now))) c.loop-one-test.true c.one-item.is
+      (map (block_of (known_in c.args.scope.now)) (map seen_block c.args.blocks.now)) c.loop-one-test.true c.one-item.is
       (c.in_ok-push.ensures.items ∙ ap (λ (one : BasicBlock). c.loop-one.built.items ++ one ∷ []) c.in_ok-made.ensures.block)
       c.loop-one.invariant.made;
-  numbered = made-more (λ (bs : List BlockTable). flat_map (λ (one : BlockLines). numbers_of (known_in c.args.scope.now) one.lines) (map uncast_block (map seen_block bs)))
-      (λ (one : BlockTable). numbers_of (known_in c.args.scope.now) (uncast_block (seen_block one)).lines) (λ x xs. refl) c.args.blocks.now
+  numbered = made-more (λ (bs : List BlockTable). flat_map (λ (one : BlockLines). numbers_of (known_in c.args.scope.now) one.lines) (map seen_block bs))
+      (λ (one : BlockTable). numbers_of (known_in c.args.scope.now) (seen_block one).lines) (λ x xs. refl) c.args.blocks.now
       c.loop-one.one-index c.one-item.result c.loop-one.numbers.items c.block.new.numbers.items
-      (c.args.numbers.now.items ++ flat_map (λ (one : BlockLines). numbers_of (known_in c.args.scope.now) one.lines) (map uncast_block (map seen_block c.args.blocks.now)))
+      (c.args.numbers.now.items ++ flat_map (λ (one : BlockLines). numbers_of (known_in c.args.scope.now) one.lines) (map seen_block c.args.blocks.now))
       c.loop-one-test.true c.one-item.is c.in_ok-made.ensures.numbers c.loop-one.invariant.numbered;
 }

@@ -4,13 +4,12 @@ use Rattle.ir_lines.specs.Sections.{BlockLines}
 use Rattle.ir_lines.specs.Tables.{seen_block}
 use Rattle.ir_lines.specs.Modules.{block_of, numbers_of}
 use Rattle.module_build.specs.Known.{known_in}
-use Rattle.text_resolve.specs.Built.{uncast_block}
 use Rattle.text_resolve.proofs.functions.built_blocks.Given as goal
 
 abbrev pub invariant-loop-one : goal.invariant-loop-one
 invariant-loop-one l = record {
-  made : l.built.items ++ map (block_of (known_in l.scope)) (map uncast_block (map seen_block (drop l.one-index l.blocks)))
-      ≡ map (block_of (known_in l.scope)) (map uncast_block (map seen_block l.blocks));
-  numbered : l.numbers.items ++ flat_map (λ (block : BlockLines). numbers_of (known_in l.scope) block.lines) (map uncast_block (map seen_block (drop l.one-index l.blocks)))
-      ≡ l.initial.numbers.items ++ flat_map (λ (block : BlockLines). numbers_of (known_in l.scope) block.lines) (map uncast_block (map seen_block l.blocks));
+  made : l.built.items ++ map (block_of (known_in l.scope)) (map seen_block (drop l.one-index l.blocks))
+      ≡ map (block_of (known_in l.scope)) (map seen_block l.blocks);
+  numbered : l.numbers.items ++ flat_map (λ (block : BlockLines). numbers_of (known_in l.scope) block.lines) (map seen_block (drop l.one-index l.blocks))
+      ≡ l.initial.numbers.items ++ flat_map (λ (block : BlockLines). numbers_of (known_in l.scope) block.lines) (map seen_block l.blocks);
 }

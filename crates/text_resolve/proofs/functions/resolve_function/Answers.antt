@@ -2,24 +2,25 @@ use Rattle.std.proofs.Common.{◌∙◌, ap, sym, subst}
 use Rattle.ir_lines.specs.Modules.{Known}
 use Rattle.ir_lines.specs.Tables.{seen_definition}
 use Rattle.module_build.specs.Built.{lined_function}
+use Rattle.module_build.proofs.BuiltLemmas.{known-local}
 use Rattle.module_build.specs.Placed.{IsPlacedFunction}
-use Rattle.text_resolve.specs.Built.{uncast_definition}
 use Rattle.text_resolve.proofs.ScopeLemmas.{notes-function}
-use Rattle.text_resolve.proofs.Uncast.{scope-uncast}
 use Rattle.text_resolve.proofs.functions.resolve_function.Goals as goal
 
 pub function-requires-clause-placed : goal.function-requires-clause-placed
 function-requires-clause-placed c =
-    let own = uncast_definition (seen_definition c.args.func.now) in
+    let own = seen_definition c.args.func.now in
+    let l = c.in_ok-local.ensures.is in
     subst (λ (known : Known). IsPlacedFunction known own)
-    (sym (scope-uncast c.args.top.now (seen_definition c.args.func.now) c.in_ok-local.local c.in_ok-local.ensures.is)) c.requires
+    (sym (known-local c.args.top.now own c.in_ok-local.local.values c.in_ok-local.local.blocks l.values l.blocks)) c.requires
 
 pub returns-clause-func : goal.returns-clause-func
 returns-clause-func c =
-    let own = uncast_definition (seen_definition c.args.func.now) in
+    let own = seen_definition c.args.func.now in
+    let l = c.in_ok-local.ensures.is in
     c.in_ok-func.ensures
     ∙ ap (λ (known : Known). lined_function known own)
-    (scope-uncast c.args.top.now (seen_definition c.args.func.now) c.in_ok-local.local c.in_ok-local.ensures.is)
+    (known-local c.args.top.now own c.in_ok-local.local.values c.in_ok-local.local.blocks l.values l.blocks)
 
 pub returns-clause-noted : goal.returns-clause-noted
 returns-clause-noted c = λ lines top.

@@ -1,4 +1,4 @@
-use Rattle.std.proofs.Common.{◌≡◌, ℕ, List, map, take, sym, ap, ◌∙◌}
+use Rattle.std.proofs.Common.{◌≡◌, ℕ, List, length, map, take, sym, ap, ◌∙◌, arith}
 use Rattle.ir_ast.specs.declared.ops.Callee.{Callee}
 use Rattle.ir_ast.specs.declared.ops.Callee.TheVariants.{Fun}
 use Rattle.ir_ast.specs.Objects.{number}
@@ -7,6 +7,7 @@ use Rattle.machine_meaning.specs.Words.{worded_operand}
 use Rattle.machine_meaning.specs.Machines.{over, spilled}
 use Rattle.machine_meaning.specs.MachineSteps.{calls}
 use Rattle.machine_lines.specs.Lines.{line_of, lines_left}
+use Rattle.machine_frames.specs.declared.tasks.Task.{Task}
 use Rattle.machine_frames.specs.Frames.{kept_in}
 use Rattle.std.proofs.lemmas.List.{take-map}
 use Rattle.ir_machine.specs.Executors.{machinery, seen}
@@ -19,9 +20,11 @@ returns c =
     let callee : Callee = Fun (record { 0 = c.args.func }) in
     let operands : map worded_operand c.front.result.now ≡ take c.args.arguments (map worded_operand inst.operands) =
     ap (map worded_operand) (c.front.ensures ∙ ap (take c.args.arguments) c.operands.ensures) ∙ sym (take-map worded_operand c.args.arguments inst.operands) in
-    let kept_so : c.keep.new.words.items ≡ kept_in (map number now.run.frame.registers.items) inst c.args.arguments = rw c.as_slice.ensures.value at c.in_ok-keep.ensures in
-    let stack : c.write_over.new.stack ≡ over (kept_in (map number now.run.frame.registers.items) inst c.args.arguments) now.run.stack =
-    c.in_ok-write_over.ensures ∙ ap (λ (ws : List ℕ). over ws now.run.stack) (c.as_slice-2.ensures.value ∙ kept_so) in
+    let kept : Task = record now.run { stack = over (kept_in (map number now.run.frame.registers.items) inst c.args.arguments) now.run.stack } in
+    let is : c.keep.new.self ≡ kept = c.in_ok-keep.ensures in
     sym (ap (calls all (spilled (seen now) line.inst c.args.arguments) line lines callee) operands)
-    ∙ sym (ap (λ (words : List ℕ). calls all (record (seen now) { stack = words }) line lines callee (map worded_operand c.front.result.now)) stack)
+    ∙ sym (ap (λ (run : Task). calls all (seen (record now { run = run })) (line_of run.frame.next inst) (lines_left (following run.frame.next inst) c.args.rest.insts.now) callee (map worded_operand c.front.result.now)) is)
     ∙ c.in_ok-go_in.ensures
+
+pub go_in-requires-clause-few : goal.go_in-requires-clause-few
+go_in-requires-clause-few c = omega (arith, ap (λ (run : Task). length run.below.items) c.in_ok-keep.ensures, c.len.ensures)

@@ -1,29 +1,39 @@
-use Rattle.std.proofs.Common.{◌≡◌, ℕ, List, length, map, take, drop, ap, ◌∙◌, arith}
+use Rattle.std.proofs.Common.{◌≡◌, ℕ, List, length, map, take, drop, refl, sym, ap, ◌∙◌, arith}
+use Rattle.std.specs.List.{prefix_len}
 use Rattle.std.proofs.lemmas.List.{with_items_is}
+use Rattle.ir_ast.specs.Faults.PhiEdges.{is_phi}
 use Rattle.ir_ast.specs.Insts.{Instruction}
 use Rattle.ir_ast.specs.Objects.{Datum, number}
-use Rattle.object_meaning.specs.Jumps.{phi_write}
+use Rattle.object_meaning.specs.Jumps.{arrived, phi_write}
 use Rattle.object_meaning.specs.Lines.{after_all, first_register, insts_of}
 use Rattle.object_meaning.specs.Registers.{put_all}
+use Rattle.object_meaning.specs.States.{Frame}
 use Rattle.machine_frames.specs.Frames.{frame_of}
+use Rattle.machine_frames.specs.Landings.{Site, phis_of}
+use Rattle.machine_frames.specs.Tables.{site_of}
 use Rattle.machine_lines.specs.Lines.{lines_left}
 use Rattle.machine_frames.proofs.FrameLemmas.{arrive_is}
 use Rattle.machine_frames.proofs.frames.Frame.arrive.Goals as goal
 
-pub returns : goal.returns
-returns c =
+pub returns-in-None : goal.returns-in-None
+returns-in-None c =
+    let frame = frame_of c.args.self.now in let block = c.args.block in let first = first_register c.args.code.now c.args.self.now.func block in
+    let at : List Instruction → Frame = λ insts. record frame { block = block; rest = lines_left c.args.self.now.next insts } in
+    ap at c.none-self.ensures ∙ sym (ap (λ (insts : List Instruction). arrived frame block (lines_left first insts)) c.in-None.ensures)
+
+pub returns-in_ok-carry-in-Some : goal.returns-in_ok-carry-in-Some
+returns-in_ok-carry-in-Some c =
     let frame = frame_of c.args.self.now in let code = c.args.code.now in let func = c.args.self.now.func in let block = c.args.block in
-    let first = first_register code func block in let all = insts_of code func block in let count = c.phi_count-count.result in
-    let registers : List Datum = map number c.do_moves.new.registers in
-    let front : c.front_of-phis.result.insts.now ≡ take count all = c.front_of-phis.ensures ∙ ap (take count) c.lines-lines.ensures in
-    let back : c.behind-self.result.insts.now ≡ drop count all = c.behind-self.ensures ∙ ap (drop count) c.lines-lines.ensures in
-    let counted = rw c.lines-lines.ensures at c.phi_count-count.ensures.value in
-    let moves = rw (c.as_slice.ensures.value, c.first-first.ensures, front) at c.in_ok-next.ensures.moves in
-    let moved = rw (c.as_slice-2.ensures.value, c.as_mut_slice.ensures.value) at c.do_moves.ensures in
-    let put_so : registers ≡ put_all (map (phi_write frame.block frame.registers) (lines_left first (take count all))) frame.registers = moved ∙ ap (λ writes. put_all writes frame.registers) moves in
-    let kept : length c.do_moves.new.registers ≡ c.args.self.now.registers.len = omega (arith, c.do_moves.auto.registers, c.as_mut_slice.ensures.len) in
-    ap (λ (rs : List ℕ). record frame { block = block; rest = lines_left c.in_ok-next.next c.behind-self.result.insts.now; registers = map number rs }) (with_items_is c.args.self.now.registers c.do_moves.new.registers kept)
-    ∙ ap (λ (n : ℕ). record frame { block = block; rest = lines_left n c.behind-self.result.insts.now; registers = registers })
-    (c.in_ok-next.ensures.next ∙ ap (λ (n : ℕ). after_all n c.front_of-phis.result.insts.now) c.first-first.ensures ∙ ap (after_all first) front)
-    ∙ ap (λ (left : List Instruction). record frame { block = block; rest = lines_left (after_all first (take count all)) left; registers = registers }) back
-    ∙ arrive_is frame block first all registers count counted put_so
+    let first = first_register code func block in let all = insts_of code func block in let count = prefix_len (λ inst. is_phi inst.op) all in
+    let registers : List Datum = map number c.carry.new.registers in
+    let site : c.in-Some.landing.now ≡ site_of code func block = c.in-Some.ensures in
+    let writes : Site → List Datum = λ s. put_all (map (phi_write frame.block frame.registers) (lines_left s.first (phis_of s.insts))) frame.registers in
+    let carried : registers ≡ writes c.in-Some.landing.now = rw c.as_mut_slice.ensures.value at c.in_ok-carry-in-Some.ensures in
+    let put_so : registers ≡ put_all (map (phi_write frame.block frame.registers) (lines_left first (take count all))) frame.registers = carried ∙ ap writes site in
+    let kept : length c.carry.new.registers ≡ c.args.self.now.registers.len = omega (arith, c.carry.auto.registers, c.as_mut_slice.ensures.len) in
+    ap (λ (rs : List ℕ). record frame { block = block; rest = lines_left c.next-self.result c.rest-self.result.insts.now; registers = map number rs }) (with_items_is c.args.self.now.registers c.carry.new.registers kept)
+    ∙ ap (λ (n : ℕ). record frame { block = block; rest = lines_left n c.rest-self.result.insts.now; registers = registers })
+    (c.next-self.ensures ∙ ap (λ (s : Site). after_all s.first (phis_of s.insts)) site)
+    ∙ ap (λ (left : List Instruction). record frame { block = block; rest = lines_left (after_all first (take count all)) left; registers = registers })
+    (c.rest-self.ensures ∙ ap (λ (s : Site). drop (prefix_len (λ inst. is_phi inst.op) s.insts) s.insts) site)
+    ∙ arrive_is frame block first all registers count refl put_so

@@ -7,5 +7,5 @@ use Rattle.machine_lines.proofs.decoded.Decoded.second_word.Goals as goal
 
 pub returns : goal.returns
 returns c = λ inst is.
-    source_at_is c.args.registers.now inst.operands 1 c.word.ensures.few
-    ∙ ap number (ap (λ (d : Decoded). found_word c.args.registers.now d.second) (sym is) ∙ sym c.word.ensures.value)
+    source_at_is c.args.registers.now inst.operands 1
+    ∙ ap number (ap (λ (d : Decoded). found_word c.args.registers.now d.second) (sym is) ∙ sym c.word.ensures)

@@ -1,6 +1,5 @@
-use Rattle.std.proofs.Common.{◌≡◌, ◌-◌, ◌*◌, ℕ, List, max, get_or, subst, sym, ap, ◌∙◌, arith, length}
+use Rattle.std.proofs.Common.{◌≡◌, ◌-◌, ◌*◌, List, max, get_or, sym, ap, ◌∙◌, arith, length}
 use Rattle.std.proofs.lemmas.List.{length-map, get_or_past}
-use Rattle.moving_heap.specs.declared.cells.Part.{Part}
 use Rattle.moving_heap.specs.Contents.{Content, bytes_of, sizes_of, contents_of, shapes_of, nothing_kept, begins}
 use Rattle.moving_heap.proofs.SizeLemmas.{contents-length, size_at}
 use Rattle.moving_heap.proofs.ShapeLemmas.{shapes_of-length}

@@ -1,4 +1,4 @@
-use Rattle.std.proofs.Common.{◌-◌, refl, ap, ◌∙◌, arith, length}
+use Rattle.std.proofs.Common.{◌-◌, refl, ap, arith, length}
 use Rattle.std.proofs.lemmas.List.{length-map, length-append, get_or-append_right}
 use Rattle.moving_heap.specs.Orders.{row, stand_at}
 use Rattle.moving_heap.proofs.OrderLemmas.{sorted_right}

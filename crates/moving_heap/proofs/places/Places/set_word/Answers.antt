@@ -1,5 +1,4 @@
-use Rattle.std.proofs.Common.{◌≡◌, List, ℕ, ap, ◌∙◌, length}
-use Rattle.moving_heap.specs.declared.stands.Stand.{Stand}
+use Rattle.std.proofs.Common.{List, ℕ, ap, ◌∙◌, length}
 use Rattle.moving_heap.specs.Contents.{Content, sizes_of}
 use Rattle.moving_heap.specs.Settled.{Table, numbered}
 use Rattle.moving_heap.proofs.CellLemmas.{with_word-length}
