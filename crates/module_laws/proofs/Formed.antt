@@ -14,7 +14,7 @@ use Rattle.line_tokens.specs.Families.{is_result_of}
 use Rattle.line_parts.specs.Groups.{begins_argument, handed_at, suffix_of, named_result, result_at}
 use Rattle.line_tokens.specs.Marks.{is_mark, begins}
 use Rattle.line_parts.specs.Drops.{past, past_all}
-use Rattle.line_parts.specs.Parts.{Val, word_at, mark_at, name_if_any, global_at, value_at, spelled_type_at, allowed_type_at, case_value_at, is_value_type, is_answer_type, is_scalar_type, is_case_value}
+use Rattle.line_parts.specs.Parts.{Val, mark_at, name_if_any, global_at, value_at, spelled_type_at, allowed_type_at, case_value_at, is_value_type, is_answer_type, is_scalar_type, is_case_value}
 use Rattle.line_parts.specs.Lists.{Named, Given, given, function, at_most_at, listed_at, list_to, comma, is_argument_type, argument_at, arguments_at, is_task_start, head_at, given_behind, passed_at, all_passed_at, called_at, entry_at, begins_entry}
 use Rattle.line_forms.specs.Slots.{Item, Slot, part, parse, says, says_nothing, blank, m, w, g, dropped, a_managed, a_quoted, a_hash, to_brace, a_local, a_layout_name, a_width, a_type, an_answer, a_cast_type, a_value, a_case, a_pred, a_scalar, a_layout, a_place, some_fields, some_entries, a_declared, a_defined, a_called, a_strategy, a_zero, a_closing, a_family_answer, a_family, a_bracketing, a_token, a_global, some_types, some_handed, some_live, a_result, a_number}
 use Rattle.line_forms.specs.Slots as items

@@ -9,7 +9,7 @@ use Rattle.std.proofs.lemmas.List.Folds.{list_all-append}
 use Rattle.std.proofs.lemmas.List.Sums.{sum_by-cons, take_while-cons}
 use Rattle.std.proofs.lemmas.Option.{same_Some}
 use Rattle.std.proofs.lemmas.Bool.Decides.{Decides-eqb}
-use Rattle.list_laws.proofs.Contents.{contains_map, get_contained, all_at}
+use Rattle.list_laws.proofs.Contents.{get_contained, all_at}
 use Rattle.list_laws.proofs.Places.{get_map, get_middle}
 use Rattle.ir_ast.specs.declared.modules.Form.TheVariants.{Rewritten}
 use Rattle.ir_ast.specs.declared.ops.Op.{Op}

@@ -1,8 +1,8 @@
 -- The instructions of statepoint groups: their lines, and what they say.
-use Rattle.std.proofs.Common.{◌≡◌, refl, ap, ◌∙◌, ℕ, ◌<◌, ◌≤◌, ◌^◌, true, false, not, ◌||◌, List, [], ◌∷◌, ◌++◌, length, map, Some, arith, codes, decimal, append_assoc}
+use Rattle.std.proofs.Common.{◌≡◌, refl, ap, ◌∙◌, ℕ, ◌<◌, ◌≤◌, ◌^◌, true, false, ◌||◌, List, [], ◌∷◌, ◌++◌, length, map, Some, arith, codes, decimal, append_assoc}
 use Rattle.std.specs.Prelude.{drop, pos, ◌==◌, if◌then◌else◌}
 use Rattle.std.specs.Fmt.{signed_decimal}
-use Rattle.std.specs.List.{AllByRecursion, list_all, list_any, zip}
+use Rattle.std.specs.List.{AllByRecursion, list_all, zip}
 use Rattle.std.proofs.lemmas.Bool.{le-leb, ne_eqb, or_right}
 use Rattle.std.proofs.lemmas.Fmt.{decimal_digit, decimal_step}
 use Rattle.std.proofs.lemmas.List.{length-map}

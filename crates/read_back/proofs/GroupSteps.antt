@@ -19,7 +19,7 @@ use Rattle.line_parts.specs.Gives.{Found, after, one_at, with_rest}
 use Rattle.line_parts.specs.Lists.{Given, given, comma, list_to, is_argument_type, is_task_start, passed_at, given_behind}
 use Rattle.line_tokens.specs.Marks.{is_mark, is_word, begins, stands}
 use Rattle.line_tokens.specs.Numbers.{decimal_from}
-use Rattle.line_parts.specs.Parts.{Val, mark_at, value_at, is_value_type, is_answer_type, is_managed, allowed_type_at, spelled_type_at}
+use Rattle.line_parts.specs.Parts.{Val, mark_at, is_value_type, is_answer_type, is_managed, allowed_type_at, spelled_type_at}
 use Rattle.line_parts.specs.Parts as values
 use Rattle.line_forms.specs.Forms.{callee_type, callee_count}
 use Rattle.line_forms.specs.Slots.{Item, name, ty, types as types_said, handed, live, literal, family_answer, Slot, blank, m, g, a_zero, a_closing, a_family_answer, a_family, a_bracketing, a_token, a_global, some_types, some_handed, some_live, a_result, a_number, part, parse}

@@ -12,7 +12,7 @@ use Rattle.line_forms.specs.Forms.{fit, form_of, form_in, is_dropped_form}
 use Rattle.line_forms.specs.Slots.{Item}
 use Rattle.ir_reader.specs.Places.{behind, behind_label}
 use Rattle.ir_reader.specs.Limits as limits
-use Rattle.ir_reader.specs.Limits.{said_fits, said_counts_as}
+use Rattle.ir_reader.specs.Limits.{said_fits}
 use Rattle.read_back.proofs.Steps.{IsClean, in_line}
 use Rattle.sp_text.proofs.TokenLemmas.{tokens-nil}
 use Rattle.sp_text.specs.Lines.{numbered}

@@ -1,7 +1,7 @@
 -- Each instruction of a module is printed on lines that are read.
 use Rattle.std.proofs.Common.{◌≡◌, refl, ap, sym, ◌∙◌, subst, ℕ, zero, suc, ◌-◌, ◌<◌, ◌≤◌, ◌^◌, Bool, true, false, not, ◌&&◌, ◌||◌, ◌==◌, if◌then◌else◌, List, [], ◌∷◌, map, length, drop, replicate, Option, Some, None, arith}
 use Rattle.std.specs.Prelude.{is_some, flat_map, take}
-use Rattle.std.specs.List.{All, AllByRecursion, AllZip, list_all, list_any, zip}
+use Rattle.std.specs.List.{All, AllByRecursion, AllZip, list_all, zip}
 use Rattle.std.proofs.lemmas.Bool.{and_parts, or_right}
 use Rattle.std.proofs.lemmas.List.{nil_from_length}
 use Rattle.std.proofs.lemmas.List.Elements.{All-head, All-from_recursion, recursion_from_All}

@@ -25,7 +25,7 @@ use Rattle.line_tokens.specs.Numbers.{decimal_from, width_of, literal_spelled, p
 use Rattle.line_parts.specs.Gives.{after, one_at}
 use Rattle.line_tokens.specs.Marks.{is_word}
 use Rattle.line_parts.specs.Drops.{past_group, past_one_of, flag_words, is_attribute_word, is_one_of, reserved}
-use Rattle.line_parts.specs.Parts.{Val, value_of, is_value_type, spelled_type_at, allowed_type_at, pointer_at, addrspace_at, type_behind, other_type_at}
+use Rattle.line_parts.specs.Parts.{Val, value_of, is_value_type, spelled_type_at, allowed_type_at, pointer_at, addrspace_at}
 use Rattle.line_parts.specs.Parts as values
 use Rattle.line_tokens.specs.declared.literals.Literal.{Literal}
 use Rattle.line_forms.specs.Forms.{first_global}
