@@ -228,9 +228,6 @@ pub record Passing {A : Type 0} (test : A → Bool) : Type 0 where
   pub x : A
   pub is : test x ≡ true
 
-abbrev pub passed_pass : List Given → Bool
-passed_pass passed = list_all passes passed
-
 abbrev pub has_entry : List (Val × List ℕ) → Bool
 has_entry entries = nat_le 1 (length entries)
 
@@ -257,7 +254,7 @@ At a_strategy rest = Option (List ℕ) × rest
 At a_token rest = List ℕ × rest
 At a_global rest = List ℕ × rest
 At some_types rest = List TypeWord × rest
-At some_handed rest = Passing passed_pass × rest
+At some_handed rest = Passing (list_all passes) × rest
 At some_live rest = List Val × rest
 At a_result rest = Passing is_value_type × rest
 At (a_number of_type) rest = Literal × rest
@@ -371,7 +368,7 @@ part_told a_strategy f ts here more behind e a is = told (items_of f) a here mor
 part_told a_token f ts here more behind e a is = told (items_of f) a here more behind is items.name _ e
 part_told a_global f ts here more behind e a is = told (items_of f) a here more behind is items.name _ e
 part_told some_types f ts here more behind e a is = told (items_of f) a here more behind is items.types _ e
-part_told some_handed f ts here more behind e a is = tested (items_of f) a here more behind is passed_pass items.handed _ (handed-types ts) e
+part_told some_handed f ts here more behind e a is = tested (items_of f) a here more behind is (list_all passes) items.handed _ (handed-types ts) e
 part_told some_live f ts here more behind e a is = told (items_of f) a here more behind is items.live _ e
 part_told a_result f ts here more behind e a is = tested (items_of f) a here more behind is is_value_type items.ty _ (result-type ts) e
 part_told (a_number of_type) f ts here more behind e a is = told (items_of f) a here more behind is items.literal _ e
