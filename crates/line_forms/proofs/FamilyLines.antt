@@ -569,12 +569,12 @@ record BehindQuiet (f : List Slot) (ts end : List Tok) : Type 0 where
   parse_is : parse f at ≡ Some (more, end)
   first : first_global ts ≡ first_global at
 
-quiet_behind : (f g : List Slot) (ts : List Tok) (said : List Item) (end : List Tok) → list_all is_quiet f ≡ true → parse (f ++ g) ts ≡ Some (said, end) → BehindQuiet g ts end
-quiet_behind [] g ts said end quiet e = record { at = ts; more = said; parse_is = e; first = refl }
-quiet_behind (s ∷ f) g ts said end quiet e =
-    let p = split s (f ++ g) ts said end e in
+quiet_behind : (f behind : List Slot) (ts : List Tok) (said : List Item) (end : List Tok) → list_all is_quiet f ≡ true → parse (f ++ behind) ts ≡ Some (said, end) → BehindQuiet behind ts end
+quiet_behind [] behind ts said end quiet e = record { at = ts; more = said; parse_is = e; first = refl }
+quiet_behind (s ∷ f) behind ts said end quiet e =
+    let p = split s (f ++ behind) ts said end e in
     let b = both (is_quiet s) (list_all is_quiet f) quiet in
-    let r = quiet_behind f g p.rest p.more end b.1 p.parse_is in
+    let r = quiet_behind f behind p.rest p.more end b.1 p.parse_is in
     record { at = r.at; more = r.more; parse_is = r.parse_is; first = quiet_first s ts p.here p.rest b.0 p.part_is ∙ r.first }
 
 function_named : (text : List ℕ) (f : List Slot) (ts : List Tok) (said : List Item) (end : List Tok) → parse (g text ∷ f) ts ≡ Some (said, end) → first_global ts ≡ Some text

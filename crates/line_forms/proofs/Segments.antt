@@ -27,11 +27,13 @@ unfolding after
 led-pieces here None next = refl
 led-pieces here (Some said) next = led-both here said.0 (next said.1)
 
+pieces-behind : (f g : List Slot) (found : Found (List Item)) → ((mid : List Tok) → parse (f ++ g) mid ≡ after (parse f mid) (λ here end. led here (parse g end)))
+    → after found (λ here mid. led here (parse (f ++ g) mid)) ≡ after (after found (λ here mid. led here (parse f mid))) (λ here mid. led here (parse g mid))
+unfolding after
+pieces-behind f g None each = refl
+pieces-behind f g (Some said) each = rw (each said.1) (led-pieces said.0 (parse f said.1) (parse g))
+
 pub pieces : (f g : List Slot) (ts : List Tok) → parse (f ++ g) ts ≡ after (parse f ts) (λ here mid. led here (parse g mid))
 unfolding parse after
 pieces [] g ts = led-nothing (parse g ts)
-pieces (s ∷ f) g ts = by (part s ts)
-  where
-    by : (found : Found (List Item)) → after found (λ here mid. led here (parse (f ++ g) mid)) ≡ after (after found (λ here mid. led here (parse f mid))) (λ here mid. led here (parse g mid))
-    by None = refl
-    by (Some said) = rw (pieces f g said.1) (led-pieces said.0 (parse f said.1) (parse g))
+pieces (s ∷ f) g ts = pieces-behind f g (part s ts) (λ mid. pieces f g mid)

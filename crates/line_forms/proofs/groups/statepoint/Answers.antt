@@ -13,7 +13,7 @@ use Rattle.line_forms.proofs.groups.statepoint.Goals as goal
 pub returns-in_err-result : goal.returns-in_err-result
 unfolding line_at fit after
 returns-in_err-result c =
-    let p = err_from_is_err_and c.from_residual-in_err-result.result c.from_residual-in_err-result.ensures.1 in
+    let p = err_from_is_err_and c.from_residual.result c.from_residual.ensures.1 in
     rw (p.1, p.2) (stops_whole c.in_err-result.field-0.0 (parse (result_is (calling [])) c.args.cursor.now) (line_at forms.Statepoint c.args.cursor.now)
     (λ h. rw (pieces (result_is (calling [])) (first_types ++ (last_types ++ (point_id ++ (callee_type ++ (callee_count ++ point_end))))) c.args.cursor.now, h) refl) c.in_err-result.ensures)
 
@@ -61,8 +61,8 @@ returns-in_err-passed c =
 
 pub returns-then-not-takes_own : goal.returns-then-not-takes_own
 unfolding line_at fit after
-returns-then-not-takes_own c = rw (pieces (result_is (calling [])) (first_types ++ (last_types ++ (point_id ++ (callee_type ++ (callee_count ++ point_end))))) c.args.cursor.now, c.in_ok-result.ensures, pieces first_types (last_types ++ (point_id ++ (callee_type ++ (callee_count ++ point_end)))) c.called_result.new.cursor, c.in_ok-first_types.ensures, pieces last_types (point_id ++ (callee_type ++ (callee_count ++ point_end))) c.first_types.new.cursor, c.in_ok-last_types.ensures, pieces point_id (callee_type ++ (callee_count ++ point_end)) c.last_types.new.cursor, c.in_ok-id.ensures, pieces callee_type (callee_count ++ point_end) c.statepoint_id.new.cursor, c.in_ok-function_type.ensures, pieces callee_count point_end c.callee_type.new.cursor, c.in_ok-callee.ensures, c.in_ok-passed.ensures, sym c.takes_own.ensures ∙ c.if-not-takes_own.true) refl
+returns-then-not-takes_own c = rw (pieces (result_is (calling [])) (first_types ++ (last_types ++ (point_id ++ (callee_type ++ (callee_count ++ point_end))))) c.args.cursor.now, c.in_ok-result.ensures, pieces first_types (last_types ++ (point_id ++ (callee_type ++ (callee_count ++ point_end)))) c.called_result.new.cursor, c.in_ok-first_types.ensures, pieces last_types (point_id ++ (callee_type ++ (callee_count ++ point_end))) c.first_types.new.cursor, c.in_ok-last_types.ensures, pieces point_id (callee_type ++ (callee_count ++ point_end)) c.last_types.new.cursor, c.in_ok-id.ensures, pieces callee_type (callee_count ++ point_end) c.statepoint_id.new.cursor, c.in_ok-function_type.ensures, pieces callee_count point_end c.callee_type.new.cursor, c.in_ok-callee.ensures, c.in_ok-passed.ensures, ← c.as_slice.ensures, ← c.as_slice-2.ensures, sym c.takes_own.ensures ∙ c.if-not-takes_own.true) refl
 
 pub returns : goal.returns
 unfolding line_at fit after
-returns c = rw (pieces (result_is (calling [])) (first_types ++ (last_types ++ (point_id ++ (callee_type ++ (callee_count ++ point_end))))) c.args.cursor.now, c.in_ok-result.ensures, pieces first_types (last_types ++ (point_id ++ (callee_type ++ (callee_count ++ point_end)))) c.called_result.new.cursor, c.in_ok-first_types.ensures, pieces last_types (point_id ++ (callee_type ++ (callee_count ++ point_end))) c.first_types.new.cursor, c.in_ok-last_types.ensures, pieces point_id (callee_type ++ (callee_count ++ point_end)) c.last_types.new.cursor, c.in_ok-id.ensures, pieces callee_type (callee_count ++ point_end) c.statepoint_id.new.cursor, c.in_ok-function_type.ensures, pieces callee_count point_end c.callee_type.new.cursor, c.in_ok-callee.ensures, c.in_ok-passed.ensures, sym c.takes_own.ensures ∙ c.if-not-takes_own.false) refl
+returns c = rw (pieces (result_is (calling [])) (first_types ++ (last_types ++ (point_id ++ (callee_type ++ (callee_count ++ point_end))))) c.args.cursor.now, c.in_ok-result.ensures, pieces first_types (last_types ++ (point_id ++ (callee_type ++ (callee_count ++ point_end)))) c.called_result.new.cursor, c.in_ok-first_types.ensures, pieces last_types (point_id ++ (callee_type ++ (callee_count ++ point_end))) c.first_types.new.cursor, c.in_ok-last_types.ensures, pieces point_id (callee_type ++ (callee_count ++ point_end)) c.last_types.new.cursor, c.in_ok-id.ensures, pieces callee_type (callee_count ++ point_end) c.statepoint_id.new.cursor, c.in_ok-function_type.ensures, pieces callee_count point_end c.callee_type.new.cursor, c.in_ok-callee.ensures, c.in_ok-passed.ensures, ← c.as_slice.ensures, ← c.as_slice-2.ensures, sym c.takes_own.ensures ∙ c.if-not-takes_own.false) refl
