@@ -119,7 +119,10 @@ fn binary(
     ensures lost { lost.new ≡ after_uses local.now.values lost.old ((seen_value left.now, TypeWord.Int width) ∷ (seen_value right.now, TypeWord.Int width) ∷ []) }
 {
     let ty = TypeWord::Int(width);
-    let operands = [operand(local, ty, left, lost), operand(local, ty, right, lost)];
+    let operands = [
+        operand(local, ty, left, lost),
+        operand(local, ty, right, lost),
+    ];
     inst(
         alloc,
         Some(name),
@@ -144,7 +147,10 @@ fn compare(
         (operand_in local.now.values ty (seen_value left.now) ∷ operand_in local.now.values ty (seen_value right.now) ∷ []) [])) }
     ensures lost { lost.new ≡ after_uses local.now.values lost.old ((seen_value left.now, ty) ∷ (seen_value right.now, ty) ∷ []) }
 {
-    let operands = [operand(local, ty, left, lost), operand(local, ty, right, lost)];
+    let operands = [
+        operand(local, ty, left, lost),
+        operand(local, ty, right, lost),
+    ];
     let op = Op::Icmp(pred);
     inst(alloc, Some(name), op, type_of(ty), &operands, &[])
 }
@@ -733,7 +739,14 @@ impl Scope<'_, '_, '_, '_> {
                 answer,
                 callee,
                 passed,
-            } => self.call(alloc, Some(*result), *answer, callee, passed.as_slice(), lost),
+            } => self.call(
+                alloc,
+                Some(*result),
+                *answer,
+                callee,
+                passed.as_slice(),
+                lost,
+            ),
             Reading::VoidCall { callee, passed } => {
                 self.call(alloc, None, TypeWord::Void, callee, passed.as_slice(), lost)
             }

@@ -135,4 +135,3 @@ pub fn keep(
         None => Ok(()),
     }
 }
-
