@@ -1,6 +1,6 @@
 //! The instructions that lines stand for, and what lines lose.
 
-ghost use Rattle.std.specs.Prelude.{◌≡◌, [], ◌∷◌, ◌++◌, ◌+◌, ◌<◌, length, map, filter_map, not, option_map, option_to_list, drop, IfOk, OnOk};
+ghost use Rattle.std.specs.Prelude.{◌≡◌, [], ◌∷◌, ◌++◌, map, filter_map, not, option_map, option_to_list, drop, IfOk, OnOk};
 ghost use Rattle.std.specs.Option.{option_copied};
 ghost use Rattle.line_parts.specs.Parts as values;
 ghost use Rattle.line_parts.specs.Seen.{seen_value, seen_entry, seen_passed};

@@ -1,6 +1,6 @@
 //! Whether the calls of a line fit the heads of what they call.
 
-ghost use Rattle.std.specs.Prelude.{◌≡◌, ◌||◌, ◌&&◌, ◌∷◌, codes, not, map, filter_map, option_map, is_none, slice_get};
+ghost use Rattle.std.specs.Prelude.{◌≡◌, ◌||◌, ◌&&◌, ◌∷◌, codes, not, map, filter_map, option_map, slice_get};
 ghost use Rattle.std.specs.Option.{option_and_then};
 ghost use Rattle.std.specs.Str.{bytes_eq};
 ghost use Rattle.line_parts.specs.Seen.{seen_argument, seen_passed, seen_value};
@@ -8,7 +8,6 @@ ghost use Rattle.group_parts.specs.Seen.{seen_guarded};
 ghost use Rattle.module_build.specs.Lost.{tables_in, is_missing, after_names, after_named, after_spelling, starts_at, task_starts, operands_fit, call_fits, statepoint_fits};
 ghost use Rattle.ir_lines.specs.Modules.{passed_type};
 ghost use Rattle.ir_lines.specs.Parts.{passed_function};
-ghost use Rattle.ir_lines.specs.Places.{place_in};
 ghost use Rattle.ir_lines.specs.Sections.{types_of};
 ghost use Rattle.ir_lines.specs.Tables.{seen_head};
 ghost use Rattle.ir_lines.specs.Types.{same_type, same_types, literal_fits};

@@ -1,6 +1,6 @@
 //! A line of a function resolved: its instruction, and the first of what it loses.
 
-ghost use Rattle.std.specs.Prelude.{◌≡◌, ◌+◌, ◌<◌, ◌++◌, length, drop, map, not, IfOk, OnOk};
+ghost use Rattle.std.specs.Prelude.{◌≡◌, ◌+◌, ◌<◌, ◌++◌, length, drop, map, IfOk, OnOk};
 ghost use Rattle.group_parts.specs.Seen.{seen_guarded};
 ghost use Rattle.ir_lines.specs.Faults.GroupShape.{is_count};
 ghost use Rattle.ir_lines.specs.Faults.PointerCast.{is_cast};
