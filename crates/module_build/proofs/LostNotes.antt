@@ -1,5 +1,5 @@
 -- What a line loses, code by code.
-use Rattle.std.proofs.Common.{◌≡◌, ℕ, inl, inr, Bool}
+use Rattle.std.proofs.Common.{◌≡◌, ℕ, inl, inr, Bool, subst}
 use Rattle.std.specs.Prelude.{Option, IsTrue}
 use Rattle.ir_lines.specs.declared.faults.Fault.{Fault}
 use Rattle.ir_lines.specs.Notes.{Notes, Is}
@@ -33,3 +33,12 @@ notes-lost u m v n line old a b c new p q r s =
     notes-same old new (Four u m v n line) (λ l code. (l ≡ line) × LostBy u m v n code) (four-lost u m v n line)
     (λ l code f. lost-four u m v n line l code f.0 f.1)
     (notes-then old c new _ _ (notes-then old b c _ _ (notes-then old a b _ _ p q) r) s)
+
+-- the same tests
+pub notes-by : (line : ℕ) (old new : Option Fault) (u m v n a b c d : Bool) → u ≡ a → m ≡ b → v ≡ c → n ≡ d
+    → Notes old new (λ l code. (l ≡ line) × LostBy u m v n code) → Notes old new (λ l code. (l ≡ line) × LostBy a b c d code)
+notes-by line old new u m v n a b c d e f g h noted =
+    subst (λ (t : Bool). Notes old new (λ l code. (l ≡ line) × LostBy a b c t code)) h
+    (subst (λ (t : Bool). Notes old new (λ l code. (l ≡ line) × LostBy a b t n code)) g
+    (subst (λ (t : Bool). Notes old new (λ l code. (l ≡ line) × LostBy a t v n code)) f
+    (subst (λ (t : Bool). Notes old new (λ l code. (l ≡ line) × LostBy t m v n code)) e noted)))

@@ -16,7 +16,7 @@ ghost use Rattle.module_build.specs.Known.{known_in};
 ghost use Rattle.module_build.specs.Lost.{tables_in, after_uses, after_named, after_spelling, after_line, fits_in, call_fits};
 
 use crate::fits::{fits, is_below_zero};
-use crate::lost::{Lost, label, nothing_lost, operand};
+use crate::lost::{Lost, add_unknown, label, nothing_lost, operand};
 use crate::scope::Scope;
 use ir_ast::{Callee, Elem, Inst, Name, Op, Operand, Operands, Pred, Ty, Types};
 use ir_lines::literals::{same_type, wrapped};
@@ -312,7 +312,7 @@ fn phi(
         operands.push(operand(local, ty, &entry.value, lost))?;
         labels.push(label(local, entry.label, &mut lost_labels))?;
     }
-    lost.unknown = lost_labels.unknown || lost.unknown;
+    add_unknown(lost_labels.unknown, lost);
     let name = owned(alloc, name)?;
     let none = Vec::new(alloc);
     Ok(Some(Inst::of(Some(name), Op::Phi, type_of(ty), operands, labels, none)))

@@ -33,6 +33,13 @@ pub(crate) fn nothing_lost() -> Lost
     }
 }
 
+/// Adds whether a name is unknown.
+pub(crate) fn add_unknown(unknown: bool, lost: &mut Lost)
+    ensures { lost.new ≡ record lost.old { unknown = unknown || lost.old.unknown } }
+{
+    lost.unknown = unknown || lost.unknown;
+}
+
 /// The operand that a value of this type stands for.
 pub(crate) fn operand(local: &Local, ty: TypeWord, value: &Value, lost: &mut Lost) -> Operand
     ensures operand { result ≡ operand_in local.now.values ty (seen_value value.now) }

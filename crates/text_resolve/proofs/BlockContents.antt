@@ -20,8 +20,8 @@ in-more blocks more l i = record { block = i.block; inside = Contains-append_rig
 -- ---- from the lines to the blocks
 
 to-blocks : (ls : List Line) (l : Line) → is_label l.says ≡ false → Contains ls l → Contains (until_label ls) l ⊎ IsIn (labelled_blocks ls) l
-to-blocks [] l no within = absurd (contains_none l within)
-to-blocks (m ∷ ms) l no within = by m.says refl (contains_cons m l ms within) (to-blocks ms l no)
+to-blocks [] l plain within = absurd (contains_none l within)
+to-blocks (m ∷ ms) l plain within = by m.says refl (contains_cons m l ms within) (to-blocks ms l plain)
   where
     behind : (n : ℕ) (name : List ℕ) → Contains (until_label ms) l ⊎ IsIn (labelled_blocks ms) l → IsIn (block_at n (label_said (label name)) ms ++ labelled_blocks ms) l
     behind n name (inl i) = record {
@@ -43,7 +43,8 @@ to-blocks (m ∷ ms) l no within = by m.says refl (contains_cons m l ms within) 
     by : (s : Statement) → m.says ≡ s → (m ≡ l) ⊎ Contains ms l → (Contains ms l → Contains (until_label ms) l ⊎ IsIn (labelled_blocks ms) l)
         → Contains (until_label (m ∷ ms)) l ⊎ IsIn (block_at m.number (label_said m.says) ms ++ labelled_blocks ms) l
     by (label name) e (inl same) ih =
-        absurd (let bad : true ≡ false = (subst (λ (k : Line). is_label k.says ≡ true) same (subst (λ (s : Statement). is_label s ≡ true) (sym e) refl)) in let no' : is_label l.says ≡ false = no in cc)
+        absurd (let yes : is_label l.says ≡ true = subst (λ (k : Line). is_label k.says ≡ true) same (subst (λ (t : Statement). is_label t ≡ true) (sym e) refl) in
+        let bad : true ≡ false = sym yes ∙ plain in cc)
     by (label name) e (inr later) ih =
         inr (subst (λ (s : Statement). IsIn (block_at m.number (label_said s) ms ++ labelled_blocks ms) l) (sym e) (behind m.number name (ih later)))
     by s e at ih = other (subst (λ (t : Statement). is_label t ≡ false) (sym e) refl) at ih
@@ -63,7 +64,7 @@ first-of func (m ∷ ms) l within = by (is_label m.says) refl
         })
 
 pub line-in-block : (func : Definition) (l : Line) → is_label l.says ≡ false → Contains func.body l → IsIn (blocks_of func) l
-line-in-block func l no within = elim (to-blocks func.body l no within) [
+line-in-block func l plain within = elim (to-blocks func.body l plain within) [
   | inl i ↦ (let f = first-of func func.body l i in
       record { block = f.block; inside = Contains-append_left (first_block func func.body) (labelled_blocks func.body) f.block f.inside; here = f.here })
   | inr i ↦ in-more (first_block func func.body) (labelled_blocks func.body) l i
@@ -73,13 +74,13 @@ line-in-block func l no within = elim (to-blocks func.body l no within) [
 
 until-in : (ls : List Line) (l : Line) → Contains (until_label ls) l → Contains ls l
 until-in [] l within = absurd (contains_none l within)
-until-in (m ∷ ms) l within = by (is_label m.says) refl
+until-in (m ∷ ms) l within = by (is_label m.says) refl (until-in ms l)
   where
-    by : (b : Bool) → is_label m.says ≡ b → Contains (m ∷ ms) l
-    by true e = absurd (contains_none l (subst (λ (xs : List Line). Contains xs l) (until-label m ms e) within))
-    by false e = elim (contains_cons m l (until_label ms) (subst (λ (xs : List Line). Contains xs l) (until-other m ms e) within)) [
+    by : (b : Bool) → is_label m.says ≡ b → (Contains (until_label ms) l → Contains ms l) → Contains (m ∷ ms) l
+    by true e ih = absurd (contains_none l (subst (λ (xs : List Line). Contains xs l) (until-label m ms e) within))
+    by false e ih = elim (contains_cons m l (until_label ms) (subst (λ (xs : List Line). Contains xs l) (until-other m ms e) within)) [
       | inl same ↦ subst (λ (k : Line). Contains (m ∷ ms) k) same (contains_first m ms)
-      | inr later ↦ contains_later m l ms (until-in ms l later)
+      | inr later ↦ contains_later m l ms (ih later)
     ]
 
 at-lines : (n : ℕ) (name : Option (List ℕ)) (ms : List Line) (block : BlockLines) → Contains (block_at n name ms) block → until_label ms ≡ block.lines

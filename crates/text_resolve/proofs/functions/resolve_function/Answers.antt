@@ -26,7 +26,7 @@ returns-clause-func c =
 
 pub returns-clause-noted : goal.returns-clause-noted
 returns-clause-noted c = λ lines top.
-    notes-function c.args.form lines (seen_definition c.args.func.now) c.args.top.now c.in_ok-local.local (map seen_block c.as_slice-2.result.now)
+    notes-function c.args.form lines (seen_definition c.args.func.now) c.args.top.now c.in_ok-local.local (map seen_block c.as_slice-3.result.now)
     c.args.first.now.found c.of-2.new.first.found c.note_body.new.first.found c.function.new.first.found top c.in_ok-local.ensures.is
-    (ap (λ (bs : List BlockTable). map seen_block bs) c.as_slice-2.ensures.value ∙ c.in_ok-sections.ensures)
+    (ap (λ (bs : List BlockTable). map seen_block bs) c.as_slice-3.ensures.value ∙ c.in_ok-sections.ensures)
     c.in_ok-local.ensures.noted c.in_ok-cases.ensures.noted c.in_ok-func.ensures.noted

@@ -5,7 +5,7 @@ use Rattle.ir_lines.specs.Parts.{live_use}
 use Rattle.ir_lines.specs.Modules.{passed_operand, used_operand}
 use Rattle.module_build.specs.Known.{known_in}
 use Rattle.module_build.specs.Lost.{after_uses}
-use Rattle.module_build.proofs.build.Scope.statepoint_operands.Given as goal
+use Rattle.module_build.proofs.scope.Scope.statepoint_operands.Given as goal
 
 abbrev pub invariant-loop-entry : goal.invariant-loop-entry
 invariant-loop-entry l = record {

@@ -5,7 +5,7 @@ use Rattle.ir_lines.specs.Modules.{passed_operand}
 use Rattle.ir_lines.specs.Parts.{passed_value}
 use Rattle.module_build.specs.Known.{known_in}
 use Rattle.module_build.specs.Lost.{after_uses}
-use Rattle.module_build.proofs.build.Scope.passed_operands.Given as goal
+use Rattle.module_build.proofs.scope.Scope.passed_operands.Given as goal
 
 abbrev pub invariant-loop-one : goal.invariant-loop-one
 invariant-loop-one l = record {
