@@ -18,7 +18,7 @@ use Rattle.rewriting_forms.specs.Names.{stands_in_list, is_many, joins_of}
 use Rattle.live_sets.specs.Values.{has_mark, valued}
 use Rattle.live_sets.specs.Starts.{list_at}
 use Rattle.live_sets.specs.Ends.{AreFronts}
-use Rattle.live_sets.specs.Joins.{AddsJoins}
+use Rattle.live_sets.specs.Joins.{AddsJoins, AreJoins}
 use Rattle.live_sets.proofs.EdgeLemmas.{among_has}
 use Rattle.live_sets.proofs.EndLemmas.{no_marks}
 
@@ -104,3 +104,15 @@ none_marked rows fronts count (x ∷ starts) value wanted joins none = absurd (o
 none_marked rows fronts count [] value wanted joins none =
     joins_none rows fronts count [] value (replicate (length rows) false) wanted joins
     (λ node. ap (λ (t : Bool). wanted && t) (unmarked_at (length rows) node) ∙ both_false wanted) (λ is. no_marks rows)
+
+-- where no block has two or more edges into it, no pointer gets a phi
+pub none_joined : (func : Function) (table : List Operand) (joins : List (Vec ValueId)) → length joins ≡ length func.blocks → ((b : ℕ) → list_at joins b ≡ [])
+    → ((b : ℕ) → b < length func.blocks → is_many (preds func b) ≡ false) → AreJoins func table joins
+none_joined func table joins whole empty none = record {
+  whole = whole;
+  each = λ b below. empty b ∙ sym (ap (map valued) (no_pointers b (none b below) (pointers func)));
+}
+  where
+    no_pointers : (b : ℕ) → is_many (preds func b) ≡ false → (xs : List ℕ) → filter (joins_of func table b) xs ≡ []
+    no_pointers b few [] = refl
+    no_pointers b few (x ∷ xs) = (let rest = no_pointers b few xs in rw few rest)

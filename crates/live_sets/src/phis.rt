@@ -1,10 +1,10 @@
 //! Where phis are inserted.
 
-ghost use Rattle.std.specs.Prelude.{◌≡◌, ◌<◌, ◌≤◌, ◌+◌, ◌++◌, ◌&&◌, ◌==◌, [], ◌∷◌, if◌then◌else◌, length, map, replicate, false, slice_index_or, IfOk};
+ghost use Rattle.std.specs.Prelude.{◌≡◌, ◌<◌, ◌≤◌, ◌+◌, ◌++◌, ◌&&◌, ◌==◌, [], ◌∷◌, if◌then◌else◌, length, map, replicate, false, slice_index_or, IfOk, ℕ};
 ghost use Rattle.ir_ast.specs.Types.{is_pointer};
 ghost use Rattle.ir_ast.specs.Values.{value_types};
 ghost use Rattle.object_meaning.specs.Lines.{registers_of};
-ghost use Rattle.rewriting_forms.specs.Numbered.{pointers};
+ghost use Rattle.rewriting_forms.specs.Numbered.{pointers, preds};
 ghost use Rattle.live_sets.specs.Starts.{AreStarts};
 ghost use Rattle.ir_ast.specs.Formed.{IsFormed};
 ghost use Rattle.ir_cfg.specs.Graphs.{graph_of};
@@ -22,7 +22,7 @@ use graph_search::Edges;
 use ir_ast::{Func, Operand};
 use ir_cfg::Cfg;
 use shared_search::reached;
-use sp_ids::{Memory, ValueId};
+use sp_ids::{BlockId, Memory, ValueId};
 use std::alloc::Global;
 
 /// For each block the pointers that get a phi there when statepoints are put in: at a block with two or more edges into it those that
@@ -42,6 +42,10 @@ pub fn joins(
     ensures { IfOk result (λ joins. AreJoins func.now.content bases.now joins.items) }
 {
     let count = func.blocks().len();
+    if !has_join(func, cfg) {
+        let none = empty_lists(alloc, count)?;
+        return Ok(none);
+    }
     let marks = pointer_marks(alloc, func)?;
     let values = marked(alloc, marks.as_slice())?;
     let firsts = first_numbers(alloc, func)?;
@@ -58,6 +62,25 @@ pub fn joins(
         bases,
         listed,
     )
+}
+
+// Whether two or more edges lead into some block.
+fn has_join(func: &Func, cfg: &Cfg) -> bool
+    requires { cfg.now ≡ graph_of func.now.content }
+    ensures { result ≡ false → (b : ℕ) → b < length func.now.content.blocks → is_many (preds func.now.content b) ≡ false }
+{
+    for number in 0..func.blocks().len() {
+        if are_many(cfg.preds(BlockId(number as u32))) {
+            return true;
+        }
+    }
+    false
+}
+
+fn are_many(blocks: &[BlockId]) -> bool
+    ensures { result ≡ is_many (map (λ block. block.0) blocks.now) }
+{
+    blocks.len() >= 2
 }
 
 fn all_joins(

@@ -4,3 +4,8 @@ pub mod Sizes
 pub mod ArgumentLists
 pub mod BuiltLemmas
 pub mod Placing
+pub mod TypeLists
+pub mod Founds
+pub mod LostLemmas
+pub mod LostNotes
+pub mod ScopeLemmas

@@ -1,5 +1,5 @@
 -- The names that the lines of a function can name, as the scope of the code has them.
-use Rattle.module_build.specs.declared.build.Scope.{Scope}
+use Rattle.module_build.specs.declared.scope.Scope.{Scope}
 use Rattle.ir_lines.specs.Modules.{Known}
 
 abbrev pub known_in : Scope → Known

@@ -1,26 +1,31 @@
-//! The instructions, arguments and layouts that lines stand for.
+//! The instructions that lines stand for, and what lines lose.
 
-ghost use Rattle.std.specs.Prelude.{◌≡◌, [], ◌∷◌, ◌++◌, ◌+◌, ◌<◌, length, map, option_map, drop, IfOk, OnOk};
+ghost use Rattle.std.specs.Prelude.{◌≡◌, [], ◌∷◌, ◌++◌, map, filter_map, not, option_map, option_to_list, drop, IfOk, OnOk};
 ghost use Rattle.std.specs.Option.{option_copied};
 ghost use Rattle.line_parts.specs.Parts as values;
-ghost use Rattle.line_parts.specs.Seen.{seen_value, seen_argument, seen_entry, seen_passed};
-ghost use Rattle.ir_lines.specs.Parts.{live_use, token_type};
+ghost use Rattle.line_parts.specs.Seen.{seen_value, seen_entry, seen_passed};
+ghost use Rattle.ir_lines.specs.Parts.{entry_use, live_use, token_type, token_use, index_use, passed_value, passed_function};
 ghost use Rattle.ir_lines.specs.Statements.{statepoint};
 ghost use Rattle.ir_lines.specs.Places.{number_in};
+ghost use Rattle.ir_lines.specs.Types.{same_type};
 ghost use Rattle.ir_lines.specs.Views.{seen_guarded, said, seen_lines};
+ghost use Rattle.ir_lines.specs.Modules.{wrapped, used_operand, instruction, instruction_said, external_callee, callee_of, passed_operand, given_type, case_values, case_labels, element_of, entry_operand, entry_label, operand_in, label_in, type_of, binary_of, conversion_of, place_of};
+ghost use Rattle.ir_resolve.specs.TextFaults.{is_below_zero};
 ghost use Rattle.module_build.specs.Known.{known_in};
-ghost use Rattle.ir_lines.specs.Sections.{arguments_named, layout_said, layouts_of};
-ghost use Rattle.ir_lines.specs.Modules.{wrapped, used_operand, instruction, instruction_said, with_line, external_callee, callee_of, passed_operand, given_type, case_values, case_labels, element_of, entry_operand, entry_label, operand_in, label_in, type_of, argument_of, layout_of, binary_of, conversion_of, cell_of, place_of};
+ghost use Rattle.module_build.specs.Lost.{tables_in, after_uses, after_named, after_spelling, after_line, fits_in, call_fits};
 
-use ir_ast::{Arg, Callee, Cell, Elem, Inst, Layout, Name, Op, Operand, Operands, Pred, Ty, Types};
-use ir_lines::literals::wrapped;
+use crate::fits::{fits, is_below_zero};
+use crate::lost::{Lost, add_unknown, label, nothing_lost, operand};
+use crate::scope::Scope;
+use ir_ast::{Callee, Elem, Inst, Name, Op, Operand, Operands, Pred, Ty, Types};
+use ir_lines::literals::{same_type, wrapped};
 use ir_lines::names::{is_text, number_of};
 use ir_lines::operands::{binary_of, conversion_of, element_of, passed_type, type_of};
 use ir_lines::parts::TOKEN;
-use ir_lines::scope::{Local, Top};
+use ir_lines::scope::Local;
 use ir_reader::{
-    Argument, Binary, Conversion, Entry, Literal, NumberedReading, Passed, Reading, StatepointCall,
-    TypeWord, Value,
+    Binary, Conversion, Entry, Literal, NumberedReading, Passed, Reading, StatepointCall, TypeWord,
+    Value,
 };
 use smallvec::SmallVec;
 use sp_ids::{BlockId, FuncId};
@@ -54,15 +59,6 @@ fn place_if_any(place: Option<Literal>) -> Option<u32>
     match place {
         Some(place) => Some(place_of(place)),
         None => None,
-    }
-}
-
-fn cell_of(ty: TypeWord) -> Cell
-    ensures { result ≡ cell_of ty }
-{
-    match ty {
-        TypeWord::Managed => Cell::Ptr,
-        TypeWord::Int(_) | TypeWord::Void | TypeWord::Plain => Cell::I64,
     }
 }
 
@@ -115,12 +111,17 @@ fn binary(
     width: u32,
     left: &Value,
     right: &Value,
+    lost: &mut Lost,
 ) -> Result<Option<Inst>, AllocError>
-    ensures { IfOk result (λ made. made ≡ Some (instruction (Some name.now) (binary_of op) (Ty.Int width)
+    ensures made { IfOk result (λ made. made ≡ Some (instruction (Some name.now) (binary_of op) (Ty.Int width)
         (operand_in local.now.values (TypeWord.Int width) (seen_value left.now) ∷ operand_in local.now.values (TypeWord.Int width) (seen_value right.now) ∷ []) [])) }
+    ensures lost { lost.new ≡ after_uses local.now.values lost.old ((seen_value left.now, TypeWord.Int width) ∷ (seen_value right.now, TypeWord.Int width) ∷ []) }
 {
     let ty = TypeWord::Int(width);
-    let operands = [local.operand(ty, left), local.operand(ty, right)];
+    let operands = [
+        operand(local, ty, left, lost),
+        operand(local, ty, right, lost),
+    ];
     inst(
         alloc,
         Some(name),
@@ -139,11 +140,16 @@ fn compare(
     ty: TypeWord,
     left: &Value,
     right: &Value,
+    lost: &mut Lost,
 ) -> Result<Option<Inst>, AllocError>
-    ensures { IfOk result (λ made. made ≡ Some (instruction (Some name.now) (Op.Icmp pred) (type_of ty)
+    ensures made { IfOk result (λ made. made ≡ Some (instruction (Some name.now) (Op.Icmp pred) (type_of ty)
         (operand_in local.now.values ty (seen_value left.now) ∷ operand_in local.now.values ty (seen_value right.now) ∷ []) [])) }
+    ensures lost { lost.new ≡ after_uses local.now.values lost.old ((seen_value left.now, ty) ∷ (seen_value right.now, ty) ∷ []) }
 {
-    let operands = [local.operand(ty, left), local.operand(ty, right)];
+    let operands = [
+        operand(local, ty, left, lost),
+        operand(local, ty, right, lost),
+    ];
     let op = Op::Icmp(pred);
     inst(alloc, Some(name), op, type_of(ty), &operands, &[])
 }
@@ -156,12 +162,14 @@ fn convert(
     width: u32,
     value: &Value,
     to: u32,
+    lost: &mut Lost,
 ) -> Result<Option<Inst>, AllocError>
-    ensures { IfOk result (λ made. made ≡ Some (instruction (Some name.now) (conversion_of op to) (Ty.Int width)
+    ensures made { IfOk result (λ made. made ≡ Some (instruction (Some name.now) (conversion_of op to) (Ty.Int width)
         (operand_in local.now.values (TypeWord.Int width) (seen_value value.now) ∷ []) [])) }
+    ensures lost { lost.new ≡ after_uses local.now.values lost.old ((seen_value value.now, TypeWord.Int width) ∷ []) }
 {
     let ty = TypeWord::Int(width);
-    let operands = [local.operand(ty, value)];
+    let operands = [operand(local, ty, value, lost)];
     inst(
         alloc,
         Some(name),
@@ -181,16 +189,20 @@ fn select(
     left: &Value,
     right_ty: TypeWord,
     right: &Value,
+    lost: &mut Lost,
 ) -> Result<Option<Inst>, AllocError>
-    ensures { IfOk result (λ made. made ≡ Some (instruction (Some name.now) Op.Select (type_of left_ty)
+    ensures made { IfOk result (λ made. made ≡ Some (instruction (Some name.now) Op.Select (type_of left_ty)
         (operand_in local.now.values (TypeWord.Int 1) (seen_value condition.now) ∷ operand_in local.now.values left_ty (seen_value left.now)
         ∷ operand_in local.now.values right_ty (seen_value right.now) ∷ []) [])) }
+    ensures lost { lost.new ≡ after_spelling (not (same_type left_ty right_ty)) (after_uses local.now.values lost.old
+        ((seen_value condition.now, TypeWord.Int 1) ∷ (seen_value left.now, left_ty) ∷ (seen_value right.now, right_ty) ∷ [])) }
 {
     let operands = [
-        local.operand(TypeWord::Int(1), condition),
-        local.operand(left_ty, left),
-        local.operand(right_ty, right),
+        operand(local, TypeWord::Int(1), condition, lost),
+        operand(local, left_ty, left, lost),
+        operand(local, right_ty, right, lost),
     ];
+    lost.misspelled = !same_type(left_ty, right_ty) || lost.misspelled;
     inst(
         alloc,
         Some(name),
@@ -209,13 +221,15 @@ fn step(
     address: &Value,
     width: u32,
     index: &Value,
+    lost: &mut Lost,
 ) -> Result<Option<Inst>, AllocError>
-    ensures { IfOk result (λ made. made ≡ Some (instruction (Some name.now) op Ty.Ptr
+    ensures made { IfOk result (λ made. made ≡ Some (instruction (Some name.now) op Ty.Ptr
         (operand_in local.now.values TypeWord.Managed (seen_value address.now) ∷ operand_in local.now.values (TypeWord.Int width) (seen_value index.now) ∷ []) [])) }
+    ensures lost { lost.new ≡ after_uses local.now.values lost.old ((seen_value address.now, TypeWord.Managed) ∷ (seen_value index.now, TypeWord.Int width) ∷ []) }
 {
     let operands = [
-        local.operand(TypeWord::Managed, address),
-        local.operand(TypeWord::Int(width), index),
+        operand(local, TypeWord::Managed, address, lost),
+        operand(local, TypeWord::Int(width), index, lost),
     ];
     inst(alloc, Some(name), op, Ty::Ptr, &operands, &[])
 }
@@ -228,16 +242,18 @@ fn scalar_step(
     address: &Value,
     width: u32,
     index: &Value,
+    lost: &mut Lost,
 ) -> Result<Option<Inst>, AllocError>
-    ensures { IfOk result (λ made. made ≡ Some (instruction (Some name.now) (Op.Gep (element_of element) width None) Ty.Ptr
+    ensures made { IfOk result (λ made. made ≡ Some (instruction (Some name.now) (Op.Gep (element_of element) width None) Ty.Ptr
         (operand_in local.now.values TypeWord.Managed (seen_value address.now) ∷ operand_in local.now.values (TypeWord.Int width) (seen_value index.now) ∷ []) [])) }
+    ensures lost { lost.new ≡ after_uses local.now.values lost.old ((seen_value address.now, TypeWord.Managed) ∷ (seen_value index.now, TypeWord.Int width) ∷ []) }
 {
     let op = Op::Gep {
         elem: element_of(element),
         index_width: width,
         place: None,
     };
-    step(local, alloc, name, op, address, width, index)
+    step(local, alloc, name, op, address, width, index, lost)
 }
 
 fn load(
@@ -246,11 +262,13 @@ fn load(
     name: &[u8],
     ty: TypeWord,
     address: &Value,
+    lost: &mut Lost,
 ) -> Result<Option<Inst>, AllocError>
-    ensures { IfOk result (λ made. made ≡ Some (instruction (Some name.now) Op.Load (type_of ty)
+    ensures made { IfOk result (λ made. made ≡ Some (instruction (Some name.now) Op.Load (type_of ty)
         (operand_in local.now.values TypeWord.Managed (seen_value address.now) ∷ []) [])) }
+    ensures lost { lost.new ≡ after_uses local.now.values lost.old ((seen_value address.now, TypeWord.Managed) ∷ []) }
 {
-    let operands = [local.operand(TypeWord::Managed, address)];
+    let operands = [operand(local, TypeWord::Managed, address, lost)];
     inst(alloc, Some(name), Op::Load, type_of(ty), &operands, &[])
 }
 
@@ -260,13 +278,15 @@ fn store(
     ty: TypeWord,
     value: &Value,
     address: &Value,
+    lost: &mut Lost,
 ) -> Result<Option<Inst>, AllocError>
-    ensures { IfOk result (λ made. made ≡ Some (instruction None Op.Store (type_of ty)
+    ensures made { IfOk result (λ made. made ≡ Some (instruction None Op.Store (type_of ty)
         (operand_in local.now.values ty (seen_value value.now) ∷ operand_in local.now.values TypeWord.Managed (seen_value address.now) ∷ []) [])) }
+    ensures lost { lost.new ≡ after_uses local.now.values lost.old ((seen_value value.now, ty) ∷ (seen_value address.now, TypeWord.Managed) ∷ []) }
 {
     let operands = [
-        local.operand(ty, value),
-        local.operand(TypeWord::Managed, address),
+        operand(local, ty, value, lost),
+        operand(local, TypeWord::Managed, address, lost),
     ];
     inst(alloc, None, Op::Store, type_of(ty), &operands, &[])
 }
@@ -277,25 +297,36 @@ fn phi(
     name: &[u8],
     ty: TypeWord,
     entries: &[Entry],
+    lost: &mut Lost,
 ) -> Result<Option<Inst>, AllocError>
-    ensures { IfOk result (λ made. made ≡ Some (instruction (Some name.now) Op.Phi (type_of ty)
+    ensures made { IfOk result (λ made. made ≡ Some (instruction (Some name.now) Op.Phi (type_of ty)
         (map (entry_operand local.now.values ty) (map seen_entry entries.now)) (map (entry_label local.now.blocks) (map seen_entry entries.now)))) }
+    ensures lost { OnOk result (lost.new ≡ after_named local.now.blocks (map (λ entry. entry.1) (map seen_entry entries.now))
+        (after_uses local.now.values lost.old (map (entry_use ty) (map seen_entry entries.now)))) }
 {
     let mut operands: Operands = SmallVec::new(alloc);
     let mut labels = Vec::new(alloc);
+    let mut lost_labels = nothing_lost();
     for entry in entries {
-        operands.push(local.operand(ty, &entry.value))?;
-        labels.push(local.label(entry.label))?;
+        operands.push(operand(local, ty, &entry.value, lost))?;
+        labels.push(label(local, entry.label, &mut lost_labels))?;
     }
+    add_unknown(lost_labels.unknown, lost);
     let name = owned(alloc, name)?;
     let none = Vec::new(alloc);
     Ok(Some(Inst::of(Some(name), Op::Phi, type_of(ty), operands, labels, none)))
 }
 
-fn jump(local: &Local, alloc: Global, label: &[u8]) -> Result<Option<Inst>, AllocError>
-    ensures { IfOk result (λ made. made ≡ Some (instruction None Op.Br Ty.Void [] (label_in local.now.blocks label.now ∷ []))) }
+fn jump(
+    local: &Local,
+    alloc: Global,
+    to: &[u8],
+    lost: &mut Lost,
+) -> Result<Option<Inst>, AllocError>
+    ensures made { IfOk result (λ made. made ≡ Some (instruction None Op.Br Ty.Void [] (label_in local.now.blocks to.now ∷ []))) }
+    ensures lost { lost.new ≡ after_named local.now.blocks (to.now ∷ []) lost.old }
 {
-    let labels = [local.label(label)];
+    let labels = [label(local, to, lost)];
     inst(alloc, None, Op::Br, Ty::Void, &[], &labels)
 }
 
@@ -305,13 +336,16 @@ fn branch(
     condition: &Value,
     on_true: &[u8],
     on_false: &[u8],
+    lost: &mut Lost,
 ) -> Result<Option<Inst>, AllocError>
-    ensures { IfOk result (λ made. made ≡ Some (instruction None Op.CondBr (Ty.Int 1)
+    ensures made { IfOk result (λ made. made ≡ Some (instruction None Op.CondBr (Ty.Int 1)
         (operand_in local.now.values (TypeWord.Int 1) (seen_value condition.now) ∷ [])
         (label_in local.now.blocks on_true.now ∷ label_in local.now.blocks on_false.now ∷ []))) }
+    ensures lost { lost.new ≡ after_named local.now.blocks (on_true.now ∷ on_false.now ∷ [])
+        (after_uses local.now.values lost.old ((seen_value condition.now, TypeWord.Int 1) ∷ [])) }
 {
-    let operands = [local.operand(TypeWord::Int(1), condition)];
-    let labels = [local.label(on_true), local.label(on_false)];
+    let operands = [operand(local, TypeWord::Int(1), condition, lost)];
+    let labels = [label(local, on_true, lost), label(local, on_false, lost)];
     inst(alloc, None, Op::CondBr, Ty::Int(1), &operands, &labels)
 }
 
@@ -320,10 +354,12 @@ fn ret(
     alloc: Global,
     ty: TypeWord,
     value: &Value,
+    lost: &mut Lost,
 ) -> Result<Option<Inst>, AllocError>
-    ensures { IfOk result (λ made. made ≡ Some (instruction None Op.Ret (type_of ty) (operand_in local.now.values ty (seen_value value.now) ∷ []) [])) }
+    ensures made { IfOk result (λ made. made ≡ Some (instruction None Op.Ret (type_of ty) (operand_in local.now.values ty (seen_value value.now) ∷ []) [])) }
+    ensures lost { lost.new ≡ after_uses local.now.values lost.old ((seen_value value.now, ty) ∷ []) }
 {
-    let operands = [local.operand(ty, value)];
+    let operands = [operand(local, ty, value, lost)];
     inst(alloc, None, Op::Ret, type_of(ty), &operands, &[])
 }
 
@@ -333,11 +369,13 @@ fn gc_result(
     name: &[u8],
     answer: TypeWord,
     token: &[u8],
+    lost: &mut Lost,
 ) -> Result<Option<Inst>, AllocError>
-    ensures { IfOk result (λ made. made ≡ Some (instruction (Some name.now) Op.GcResult (type_of answer)
+    ensures made { IfOk result (λ made. made ≡ Some (instruction (Some name.now) Op.GcResult (type_of answer)
         (operand_in local.now.values token_type (values.local token.now) ∷ []) [])) }
+    ensures lost { lost.new ≡ after_uses local.now.values lost.old (token_use token.now ∷ []) }
 {
-    let operands = [local.operand(TOKEN, &Value::Local(token))];
+    let operands = [operand(local, TOKEN, &Value::Local(token), lost)];
     inst(
         alloc,
         Some(name),
@@ -355,22 +393,24 @@ fn gc_relocate(
     token: &[u8],
     base: Literal,
     derived: Literal,
+    lost: &mut Lost,
 ) -> Result<Option<Inst>, AllocError>
-    ensures { IfOk result (λ made. made ≡ Some (instruction (Some name.now) Op.GcRelocate Ty.Ptr
+    ensures made { IfOk result (λ made. made ≡ Some (instruction (Some name.now) Op.GcRelocate Ty.Ptr
         (operand_in local.now.values token_type (values.local token.now)
         ∷ operand_in local.now.values (TypeWord.Int 32) (values.number base)
         ∷ operand_in local.now.values (TypeWord.Int 32) (values.number derived) ∷ []) [])) }
+    ensures lost { lost.new ≡ after_uses local.now.values lost.old (token_use token.now ∷ index_use base ∷ index_use derived ∷ []) }
 {
     let index = TypeWord::Int(32);
     let operands = [
-        local.operand(TOKEN, &Value::Local(token)),
-        local.operand(index, &Value::Number(base)),
-        local.operand(index, &Value::Number(derived)),
+        operand(local, TOKEN, &Value::Local(token), lost),
+        operand(local, index, &Value::Number(base), lost),
+        operand(local, index, &Value::Number(derived), lost),
     ];
     inst(alloc, Some(name), Op::GcRelocate, Ty::Ptr, &operands, &[])
 }
 
-// A `switch` with the cases that stand behind it.
+// A `switch` with the cases that stand behind it. What a case loses is found at its own line.
 fn switch(
     local: &Local,
     alloc: Global,
@@ -378,16 +418,19 @@ fn switch(
     value: &Value,
     default: &[u8],
     behind: &[NumberedReading],
+    lost: &mut Lost,
 ) -> Result<Option<Inst>, AllocError>
-    ensures { IfOk result (λ made. made ≡ Some (instruction None Op.Switch (Ty.Int width)
+    ensures made { IfOk result (λ made. made ≡ Some (instruction None Op.Switch (Ty.Int width)
         (operand_in local.now.values (TypeWord.Int width) (seen_value value.now) ∷ case_values local.now.values width (seen_lines behind.now))
         (label_in local.now.blocks default.now ∷ case_labels local.now.blocks (seen_lines behind.now)))) }
+    ensures lost { OnOk result (lost.new ≡ after_named local.now.blocks (default.now ∷ [])
+        (after_uses local.now.values lost.old ((seen_value value.now, TypeWord.Int width) ∷ []))) }
 {
     let ty = TypeWord::Int(width);
     let mut operands: Operands = SmallVec::new(alloc);
     let mut labels = Vec::new(alloc);
-    operands.push(local.operand(ty, value))?;
-    labels.push(local.label(default))?;
+    operands.push(operand(local, ty, value, lost))?;
+    labels.push(label(local, default, lost))?;
     for line in behind {
         let Reading::Case { value, label, .. } = &line.reading else {
             break;
@@ -399,20 +442,22 @@ fn switch(
     Ok(Some(Inst::of(None, Op::Switch, type_of(ty), operands, labels, none)))
 }
 
-/// What the lines of a function can name.
-#[derive(Clone, Copy)]
-pub struct Scope<'s, 't, 'a, 'n> {
-    /// The names of the whole text.
-    pub top: &'s Top<'t, 'a>,
-    /// The names of the function.
-    pub local: &'s Local<'n>,
+// A case of a `switch`, which is no instruction by itself.
+fn case(local: &Local, width: u32, value: &Value, to: &[u8], lost: &mut Lost)
+    ensures { lost.new ≡ after_named local.now.blocks (to.now ∷ []) (after_uses local.now.values lost.old ((seen_value value.now, TypeWord.Int width) ∷ [])) }
+{
+    operand(local, TypeWord::Int(width), value, lost);
+    label(local, to, lost);
 }
 
 impl Scope<'_, '_, '_, '_> {
-    fn layout(&self, name: &[u8]) -> u32
-        ensures { result ≡ number_in self.now.top.now.layouts name.now }
+    fn layout(&self, name: &[u8], lost: &mut Lost) -> u32
+        ensures layout { result ≡ number_in self.now.top.now.layouts name.now }
+        ensures lost { lost.new ≡ after_named self.now.top.now.layouts (name.now ∷ []) lost.old }
     {
-        self.top.layouts.number(name)
+        let place = self.top.layouts.find(name);
+        lost.unknown = place.is_none() || lost.unknown;
+        number_of(place)
     }
 
     fn external(&self, name: &[u8]) -> Callee
@@ -431,7 +476,7 @@ impl Scope<'_, '_, '_, '_> {
         } else if is_text(name, b"gc_same") {
             Callee::Same
         } else {
-            Callee::New(self.layout(layout_made(name)))
+            Callee::New(self.top.layouts.number(layout_made(name)))
         }
     }
 
@@ -444,11 +489,13 @@ impl Scope<'_, '_, '_, '_> {
         }
     }
 
-    fn passed_operand(&self, one: &Passed) -> Operand
-        ensures { result ≡ passed_operand (known_in self.now) (seen_passed one.now) }
+    // What is passed. Whether there is the function that a task starts at is judged with the callee.
+    fn passed_operand(&self, one: &Passed, lost: &mut Lost) -> Operand
+        ensures operand { result ≡ passed_operand (known_in self.now) (seen_passed one.now) }
+        ensures lost { lost.new ≡ after_uses self.now.local.now.values lost.old (option_to_list (passed_value (seen_passed one.now))) }
     {
         match one {
-            Passed::Value(ty, value) => self.local.operand(*ty, value),
+            Passed::Value(ty, value) => operand(self.local, *ty, value, lost),
             Passed::Function(name) => Operand::Fun(FuncId(self.top.functions.number(name))),
         }
     }
@@ -461,25 +508,49 @@ impl Scope<'_, '_, '_, '_> {
         answer: TypeWord,
         callee: &[u8],
         passed: &[Passed],
+        lost: &mut Lost,
     ) -> Result<Option<Inst>, AllocError>
-        ensures { IfOk result (λ made. made ≡ Some (instruction (option_copied name.entry)
+        ensures made { IfOk result (λ made. made ≡ Some (instruction (option_copied name.entry)
             (Op.Call (callee_of (known_in self.now) callee.now) (map given_type (map seen_passed passed.now))) (type_of answer)
             (map (passed_operand (known_in self.now)) (map seen_passed passed.now)) [])) }
+        ensures lost { OnOk result (lost.new ≡ after_spelling (not (call_fits self.now.form (tables_in self.now) answer callee.now (map seen_passed passed.now)))
+            (after_named self.now.top.now.heads (callee.now ∷ filter_map passed_function (map seen_passed passed.now))
+            (after_uses self.now.local.now.values lost.old (filter_map passed_value (map seen_passed passed.now))))) }
     {
-        let mut operands: Operands = SmallVec::new(alloc);
-        let mut types = Vec::new(alloc);
-        for one in passed {
-            operands.push(self.passed_operand(one))?;
-            types.push(type_of(passed_type(one)))?;
-        }
+        let operands = self.passed_operands(alloc, passed, lost)?;
+        self.note_call(answer, callee, passed, lost);
         let op = Op::Call {
             callee: self.callee(callee),
-            types: Types::of(types),
+            types: types_of(alloc, passed)?,
         };
         let name = named(alloc, name)?;
         let labels = Vec::new(alloc);
         let none = Vec::new(alloc);
         Ok(Some(Inst::of(name, op, type_of(answer), operands, labels, none)))
+    }
+
+    // The instruction of a conversion from or to pointers, which no module has: a call that passes nothing keeps its
+    // result's place among the values.
+    fn cast(
+        &self,
+        alloc: Global,
+        name: &[u8],
+        from: TypeWord,
+        value: &Value,
+        to: TypeWord,
+        lost: &mut Lost,
+    ) -> Result<Option<Inst>, AllocError>
+        ensures made { IfOk result (λ made. made ≡ Some (instruction (Some name.now) (Op.Call (callee_of (known_in self.now) []) []) (type_of to) [] [])) }
+        ensures lost { lost.new ≡ after_spelling (not (fits_in self.now.local.now.values self.now.local.now.types.items from (seen_value value.now)))
+            (after_uses self.now.local.now.values lost.old ((seen_value value.now, from) ∷ [])) }
+    {
+        operand(self.local, from, value, lost);
+        lost.misspelled = !fits(self.local, from, value) || lost.misspelled;
+        let op = Op::Call {
+            callee: self.callee(b""),
+            types: Types::of(Vec::new(alloc)),
+        };
+        inst(alloc, Some(name), op, type_of(to), &[], &[])
     }
 
     fn layout_step(
@@ -491,26 +562,40 @@ impl Scope<'_, '_, '_, '_> {
         address: &Value,
         width: u32,
         index: &Value,
+        lost: &mut Lost,
     ) -> Result<Option<Inst>, AllocError>
-        ensures { IfOk result (λ made. made ≡ Some (instruction (Some name.now)
+        ensures made { IfOk result (λ made. made ≡ Some (instruction (Some name.now)
             (Op.Gep (Elem.Layout (number_in self.now.top.now.layouts layout.now)) width (option_map place_of place)) Ty.Ptr
             (operand_in self.now.local.now.values TypeWord.Managed (seen_value address.now) ∷ operand_in self.now.local.now.values (TypeWord.Int width) (seen_value index.now) ∷ []) [])) }
+        ensures lost { lost.new ≡ after_spelling (is_below_zero place) (after_named self.now.top.now.layouts (layout.now ∷ [])
+            (after_uses self.now.local.now.values lost.old ((seen_value address.now, TypeWord.Managed) ∷ (seen_value index.now, TypeWord.Int width) ∷ []))) }
     {
+        let operands = [
+            operand(self.local, TypeWord::Managed, address, lost),
+            operand(self.local, TypeWord::Int(width), index, lost),
+        ];
         let op = Op::Gep {
-            elem: Elem::Layout(self.layout(layout)),
+            elem: Elem::Layout(self.layout(layout, lost)),
             index_width: width,
             place: place_if_any(place),
         };
-        step(self.local, alloc, name, op, address, width, index)
+        lost.misspelled = is_below_zero(place) || lost.misspelled;
+        inst(alloc, Some(name), op, Ty::Ptr, &operands, &[])
     }
 
     // The operands of what is passed.
-    fn passed_operands(&self, alloc: Global, passed: &[Passed]) -> Result<Operands, AllocError>
-        ensures { IfOk result (λ made. made.items ≡ map (passed_operand (known_in self.now)) (map seen_passed passed.now)) }
+    fn passed_operands(
+        &self,
+        alloc: Global,
+        passed: &[Passed],
+        lost: &mut Lost,
+    ) -> Result<Operands, AllocError>
+        ensures made { IfOk result (λ made. made.items ≡ map (passed_operand (known_in self.now)) (map seen_passed passed.now)) }
+        ensures lost { OnOk result (lost.new ≡ after_uses self.now.local.now.values lost.old (filter_map passed_value (map seen_passed passed.now))) }
     {
         let mut operands: Operands = SmallVec::new(alloc);
         for one in passed {
-            operands.push(self.passed_operand(one))?;
+            operands.push(self.passed_operand(one, lost))?;
         }
         Ok(operands)
     }
@@ -521,13 +606,16 @@ impl Scope<'_, '_, '_, '_> {
         alloc: Global,
         passed: &[Passed],
         live: &[Value],
+        lost: &mut Lost,
     ) -> Result<Operands, AllocError>
-        ensures { IfOk result (λ made. made.items ≡ map (passed_operand (known_in self.now)) (map seen_passed passed.now)
+        ensures made { IfOk result (λ made. made.items ≡ map (passed_operand (known_in self.now)) (map seen_passed passed.now)
             ++ map (used_operand (known_in self.now)) (map live_use (map seen_value live.now))) }
+        ensures lost { OnOk result (lost.new ≡ after_uses self.now.local.now.values lost.old
+            (filter_map passed_value (map seen_passed passed.now) ++ map live_use (map seen_value live.now))) }
     {
-        let mut operands = self.passed_operands(alloc, passed)?;
+        let mut operands = self.passed_operands(alloc, passed, lost)?;
         for entry in live {
-            operands.push(self.local.operand(TypeWord::Managed, entry))?;
+            operands.push(operand(self.local, TypeWord::Managed, entry, lost))?;
         }
         Ok(operands)
     }
@@ -562,22 +650,29 @@ impl Scope<'_, '_, '_, '_> {
         name: &[u8],
         call: &StatepointCall,
         live: &[Value],
+        lost: &mut Lost,
     ) -> Result<Option<Inst>, AllocError>
-        ensures { IfOk result (λ made. made
+        ensures made { IfOk result (λ made. made
             ≡ instruction_said (known_in self.now) [] (statepoint name.now (seen_guarded call.now) (map seen_value live.now))) }
+        ensures lost { OnOk result (lost.new
+            ≡ after_line self.now.form (tables_in self.now) lost.old (statepoint name.now (seen_guarded call.now) (map seen_value live.now))) }
     {
-        let operands = self.statepoint_operands(alloc, call.passed.as_slice(), live)?;
+        let operands = self.statepoint_operands(alloc, call.passed.as_slice(), live, lost)?;
+        self.note_statepoint(call, lost);
         self.guarded(alloc, name, call, operands)
     }
 
-    /// The instruction of a line, where it is one; a `switch` has the cases that stand behind it.
-    pub fn instruction(
+    /// The instruction of a line, where it is one; a `switch` has the cases that stand behind it. Adds what the line
+    /// loses.
+    pub(crate) fn instruction(
         &self,
         alloc: Global,
         reading: &Reading,
         behind: &[NumberedReading],
+        lost: &mut Lost,
     ) -> Result<Option<Inst>, AllocError>
-        ensures { IfOk result (λ made. made ≡ instruction_said (known_in self.now) (seen_lines behind.now) (said reading.now)) }
+        ensures made { IfOk result (λ made. made ≡ instruction_said (known_in self.now) (seen_lines behind.now) (said reading.now)) }
+        ensures lost { OnOk result (lost.new ≡ after_line self.now.form (tables_in self.now) lost.old (said reading.now)) }
     {
         let local = self.local;
         match reading {
@@ -587,21 +682,21 @@ impl Scope<'_, '_, '_, '_> {
                 width,
                 left,
                 right,
-            } => binary(local, alloc, result, *op, *width, left, right),
+            } => binary(local, alloc, result, *op, *width, left, right, lost),
             Reading::Compare {
                 result,
                 pred,
                 ty,
                 left,
                 right,
-            } => compare(local, alloc, result, *pred, *ty, left, right),
+            } => compare(local, alloc, result, *pred, *ty, left, right, lost),
             Reading::Convert {
                 result,
                 op,
                 width,
                 value,
                 to,
-            } => convert(local, alloc, result, *op, *width, value, *to),
+            } => convert(local, alloc, result, *op, *width, value, *to, lost),
             Reading::Select {
                 result,
                 condition,
@@ -610,20 +705,20 @@ impl Scope<'_, '_, '_, '_> {
                 right_ty,
                 right,
             } => select(
-                local, alloc, result, condition, *left_ty, left, *right_ty, right,
+                local, alloc, result, condition, *left_ty, left, *right_ty, right, lost,
             ),
             Reading::Phi {
                 result,
                 ty,
                 entries,
-            } => phi(local, alloc, result, *ty, entries.as_slice()),
+            } => phi(local, alloc, result, *ty, entries.as_slice(), lost),
             Reading::ScalarElement {
                 result,
                 element,
                 address,
                 width,
                 index,
-            } => scalar_step(local, alloc, result, *element, address, *width, index),
+            } => scalar_step(local, alloc, result, *element, address, *width, index, lost),
             Reading::LayoutElement {
                 result,
                 layout,
@@ -631,145 +726,73 @@ impl Scope<'_, '_, '_, '_> {
                 width,
                 index,
                 place,
-            } => self.layout_step(alloc, result, layout, *place, address, *width, index),
+            } => self.layout_step(alloc, result, layout, *place, address, *width, index, lost),
             Reading::Load {
                 result,
                 ty,
                 address,
-            } => load(local, alloc, result, *ty, address),
-            Reading::Store { ty, value, address } => store(local, alloc, *ty, value, address),
+            } => load(local, alloc, result, *ty, address, lost),
+            Reading::Store { ty, value, address } => store(local, alloc, *ty, value, address, lost),
             Reading::ValueCall {
                 result,
                 answer,
                 callee,
                 passed,
-            } => self.call(alloc, Some(*result), *answer, callee, passed.as_slice()),
+            } => self.call(
+                alloc,
+                Some(*result),
+                *answer,
+                callee,
+                passed.as_slice(),
+                lost,
+            ),
             Reading::VoidCall { callee, passed } => {
-                self.call(alloc, None, TypeWord::Void, callee, passed.as_slice())
+                self.call(alloc, None, TypeWord::Void, callee, passed.as_slice(), lost)
             }
-            Reading::Jump { label } => jump(local, alloc, label),
+            Reading::Jump { label } => jump(local, alloc, label, lost),
             Reading::Branch {
                 condition,
                 on_true,
                 on_false,
-            } => branch(local, alloc, condition, on_true, on_false),
+            } => branch(local, alloc, condition, on_true, on_false, lost),
             Reading::Switch {
                 width,
                 value,
                 default,
-            } => switch(local, alloc, *width, value, default, behind),
+            } => switch(local, alloc, *width, value, default, behind, lost),
             Reading::ReturnVoid => inst(alloc, None, Op::Ret, Ty::Void, &[], &[]),
-            Reading::Return { ty, value } => ret(local, alloc, *ty, value),
+            Reading::Return { ty, value } => ret(local, alloc, *ty, value, lost),
             Reading::Unreachable => inst(alloc, None, Op::Unreachable, Ty::Void, &[], &[]),
             Reading::Statepoint { result, call, live } => {
-                self.statepoint(alloc, result, call, live.as_slice())
+                self.statepoint(alloc, result, call, live.as_slice(), lost)
             }
             Reading::GcResult {
                 result,
                 answer,
                 token,
-            } => gc_result(local, alloc, result, *answer, token),
+            } => gc_result(local, alloc, result, *answer, token, lost),
             Reading::GcRelocate {
                 result,
                 token,
                 base,
                 derived,
-            } => gc_relocate(local, alloc, result, token, *base, *derived),
-            // no module has a cast: a call that passes nothing keeps its result's place among the values
-            Reading::Cast { result, to, .. } => self.call(alloc, Some(*result), *to, &[], &[]),
+            } => gc_relocate(local, alloc, result, token, *base, *derived, lost),
+            Reading::Cast {
+                result,
+                from,
+                value,
+                to,
+                ..
+            } => self.cast(alloc, result, *from, value, *to, lost),
+            Reading::Case {
+                width,
+                value,
+                label,
+            } => {
+                case(local, *width, value, label, lost);
+                Ok(None)
+            }
             _ => Ok(None),
         }
     }
-}
-
-/// The lines behind one.
-pub fn behind<'t, 'a>(lines: &'t [NumberedReading<'a>], i: usize) -> &'t [NumberedReading<'a>]
-    requires { i < length lines.now }
-    ensures { result.now ≡ drop (i + 1) lines.now }
-{
-    &lines[i + 1..]
-}
-
-/// Adds an instruction and its line behind the others, where there is one.
-pub fn keep(
-    insts: &mut Vec<Inst>,
-    numbers: &mut Vec<u32>,
-    line: u32,
-    made: Option<Inst>,
-) -> Result<(), AllocError>
-    ensures insts { OnOk result (insts.new.items ≡ insts.old.items ++ map (λ one. one.1) (with_line line made)) }
-    ensures numbers { OnOk result (numbers.new.items ≡ numbers.old.items ++ map (λ one. one.0) (with_line line made)) }
-{
-    match made {
-        Some(inst) => {
-            insts.push(inst)?;
-            numbers.push(line)?;
-            Ok(())
-        }
-        None => Ok(()),
-    }
-}
-
-/// The arguments of a head, which have these names.
-pub fn arguments_of(
-    alloc: Global,
-    line: u32,
-    arguments: &[Argument],
-    names: &[Vec<u8>],
-) -> Result<Vec<Arg>, AllocError>
-    requires { map (λ n. n.items) names.now ≡ map (λ one. one.name) (arguments_named line [] (map seen_argument arguments.now)) }
-    ensures { IfOk result (λ args. args.items ≡ map argument_of (arguments_named line [] (map seen_argument arguments.now))) }
-{
-    let mut args = Vec::new(alloc);
-    for (i, argument) in arguments.iter().enumerate() {
-        let name = owned(alloc, names[i].as_slice())?;
-        args.push(Arg {
-            name,
-            ty: type_of(argument.ty),
-        })?;
-    }
-    Ok(args)
-}
-
-fn cells_of(alloc: Global, fields: &[TypeWord]) -> Result<Vec<Cell>, AllocError>
-    ensures { IfOk result (λ cells. cells.items ≡ map cell_of fields.now) }
-{
-    fields.iter().map(|field| cell_of(*field)).collect(alloc)
-}
-
-fn layout_of(alloc: Global, name: &[u8], fields: &[TypeWord]) -> Result<Layout, AllocError>
-    ensures { IfOk result (λ made. made ≡ record { name = name.now; fields = map cell_of fields.now }) }
-{
-    let cells = cells_of(alloc, fields)?;
-    let name = owned(alloc, name)?;
-    Ok(Layout::of(name, cells))
-}
-
-// Adds the layout of a line behind the others, where it is one.
-fn keep_layout(
-    alloc: Global,
-    line: &NumberedReading,
-    layouts: &mut Vec<Layout>,
-) -> Result<(), AllocError>
-    ensures { OnOk result (layouts.new.items ≡ layouts.old.items ++ map layout_of (layout_said line.now.line (said line.now.reading))) }
-{
-    match &line.reading {
-        Reading::Layout { name, fields } => {
-            let made = layout_of(alloc, name, fields.as_slice())?;
-            layouts.push(made)?;
-            Ok(())
-        }
-        _ => Ok(()),
-    }
-}
-
-/// The layouts of lines, in their order.
-pub fn layouts_of(alloc: Global, lines: &[NumberedReading]) -> Result<Vec<Layout>, AllocError>
-    ensures { IfOk result (λ made. made.items ≡ map layout_of (layouts_of (seen_lines lines.now))) }
-{
-    let mut layouts = Vec::new(alloc);
-    for line in lines {
-        keep_layout(alloc, line, &mut layouts)?;
-    }
-    Ok(layouts)
 }

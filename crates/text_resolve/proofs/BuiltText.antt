@@ -1,16 +1,20 @@
 -- The lines of the cases of a text, a function of its parts, and what holds of the whole.
-use Rattle.std.proofs.Common.{◌≡◌, ◌∙◌, ℕ, ◌≤◌, List, [], ◌∷◌, ◌++◌, length, drop, refl, ap, sym, subst}
-use Rattle.std.specs.Prelude.{Result, Ok, Err, IfOk, map, flat_map}
+use Rattle.std.proofs.Common.{◌≡◌, ◌∙◌, ℕ, ◌+◌, ◌<◌, ◌≤◌, List, [], ◌∷◌, ◌++◌, length, get_or, drop, refl, ap, sym, subst, append_assoc}
+use Rattle.std.specs.Prelude.{Option, Result, Ok, Err, IfOk, map, flat_map}
 use Rattle.std.proofs.lemmas.List.{map-append, append-nil, drop_all}
 use Rattle.ir_ast.specs.declared.types.Ty.{Ty}
 use Rattle.ir_ast.specs.declared.funcs.Arg.{Arg}
+use Rattle.ir_ast.specs.Insts.{Instruction}
 use Rattle.ir_ast.specs.Blocks.{BasicBlock}
 use Rattle.ir_ast.specs.Funcs.{Function, LinedFunction, IsSmall}
 use Rattle.line_parts.specs.declared.readings.TypeWord.{TypeWord}
 use Rattle.ir_lines.specs.declared.scope.Top.{Top}
 use Rattle.ir_lines.specs.Statements.{Statement, Line, layout, declare, define, close, label, switch_case, switch_end}
 use Rattle.ir_lines.specs.Sections.{Definition, BlockLines, arguments_named, definitions_of, blocks_of}
-use Rattle.ir_lines.specs.Modules.{Known, known_of, type_of, instruction_said, numbers_of, block_of, argument_of, function_of}
+use Rattle.ir_lines.specs.Modules.{Known, known_of, type_of, instruction_said, with_line, instructions_of, numbers_of, block_of, argument_of, function_of}
+use Rattle.ir_reader.specs.declared.raw.NumberedReading.{NumberedReading}
+use Rattle.list_laws.proofs.Places.{drop_item}
+use Rattle.ir_lines.specs.Views.{said, seen_lines}
 use Rattle.ir_resolve.specs.Resolved.{Spot, case_lines, spot_said, spots_of, function_cases}
 use Rattle.module_build.specs.Built.{lined_function}
 use Rattle.module_build.proofs.BuiltLemmas.{lined_with}
@@ -45,6 +49,22 @@ rows-all lines [] = refl
 rows-all lines (func ∷ funcs) =
     ap (λ (rows : List (List ℕ)). rows ∷ map (λ (one : Definition). rows_of one.body) funcs) (sym (rows-spots (known_of lines func) func.body))
     ∙ ap (λ (rest : List (List (List ℕ))). function_cases lines func ∷ rest) (rows-all lines funcs)
+
+-- ---- instructions
+
+-- what one more line adds
+pub lined-more : {B : Type 0} (f : ℕ × Instruction → B) (known : Known) (xs : List NumberedReading) (i : ℕ) (x : NumberedReading) (made : Option Instruction)
+    (old new whole : List B) → i < length xs → x ≡ get_or xs i x → made ≡ instruction_said known (seen_lines (drop (i + 1) xs)) (said x.reading)
+    → new ≡ old ++ map f (with_line x.line made) → old ++ map f (instructions_of known (seen_lines (drop i xs))) ≡ whole
+    → new ++ map f (instructions_of known (seen_lines (drop (i + 1) xs))) ≡ whole
+lined-more {B} f known xs i x made old new whole below is m added so_far =
+    let behind = instructions_of known (seen_lines (drop (i + 1) xs)) in
+    let own = with_line x.line (instruction_said known (seen_lines (drop (i + 1) xs)) (said x.reading)) in
+    ap (λ (ys : List B). ys ++ map f behind) (added ∙ ap (λ (o : Option Instruction). old ++ map f (with_line x.line o)) m)
+    ∙ append_assoc old (map f own) (map f behind)
+    ∙ ap (λ (ys : List B). old ++ ys) (sym (map-append f own behind))
+    ∙ ap (λ (ys : List NumberedReading). old ++ map f (instructions_of known (seen_lines ys))) (sym (drop_item xs i x below is))
+    ∙ so_far
 
 -- ---- a function
 

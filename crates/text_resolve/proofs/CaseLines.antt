@@ -12,7 +12,7 @@ use Rattle.line_parts.specs.declared.readings.Value.{Value}
 use Rattle.ir_lines.specs.Views.{said}
 use denote.Bor.{Bor}
 use Rattle.list_laws.proofs.Places.{drop_at}
-use Rattle.line_checks.proofs.Founds.{IsWholeAt, whole-at}
+use Rattle.module_build.proofs.Founds.{IsWholeAt, whole-at}
 
 -- ---- the lines of cases
 

@@ -4,8 +4,8 @@ use Rattle.std.specs.Prelude.{Some, slice_get}
 use Rattle.std.specs.List.{Contains}
 use Rattle.list_laws.proofs.Places.{split_at}
 use Rattle.list_laws.proofs.Contents.{contains_get, get_contained}
-use Rattle.line_checks.specs.Founds.{Found}
-use Rattle.line_checks.proofs.Founds.{IsWholeAt, whole-at}
+use Rattle.module_build.specs.Founds.{Found}
+use Rattle.module_build.proofs.Founds.{IsWholeAt, whole-at}
 
 pub contained-whole : {X : Type 0} (xs before : List X) (here : X) (after : List X) → xs ≡ before ++ here ∷ after → Contains xs here
 contained-whole xs before here after e =

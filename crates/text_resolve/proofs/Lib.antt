@@ -1,8 +1,10 @@
+pub mod ExternalLemmas
+pub mod OuterLemmas
 pub mod CaseLines
-pub mod LostNotes
 pub mod RowNotes
 pub mod BuiltText
 pub mod Contained
+pub mod BlockContents
 pub mod Heads
 pub mod ScopeLemmas
 pub mod TextUnion

@@ -12,8 +12,8 @@ use Rattle.ir_ast.specs.Faults.Reserved.{IsExternalName, IsInsertedName}
 use Rattle.list_laws.proofs.Contents.{IsImage, contains_first, contains_image, contains_map, joined_contains}
 use Rattle.ir_lines.specs.declared.faults.Fault.{Fault}
 use Rattle.ir_lines.specs.Notes.{Notes}
-use Rattle.ir_lines.specs.Statements.{Statement, Line, layout, declare, define, switch, switch_case, statepoint}
-use Rattle.ir_lines.specs.Sections.{Head, Definition, Naming, BlockLines, head_said, layouts_of, heads_of, definitions_of, values_of, blocks_of, cases_of, types_of}
+use Rattle.ir_lines.specs.Statements.{Statement, Line, layout, declare, define, label, switch, switch_case, statepoint}
+use Rattle.ir_lines.specs.Sections.{Head, Definition, Naming, BlockLines, head_said, layouts_of, heads_of, definitions_of, values_of, blocks_of, is_label, cases_of, types_of}
 use Rattle.ir_lines.specs.Scope.{Scope, scope_of}
 use Rattle.ir_lines.specs.InBody.{InBody}
 use Rattle.ir_lines.specs.Again.{TopAgain, NamesFound, FoundByNames, named_values, named_blocks}
@@ -22,9 +22,12 @@ use Rattle.ir_lines.specs.Faults.NoStrategy.{is_strategy, lacks_strategy}
 use Rattle.ir_lines.specs.Faults.BadLayout.{are_cells, is_bad_layout}
 use Rattle.ir_lines.specs.Faults.Reserved.{Reserved, defines_external, declares_helper, names_value, names_label}
 use Rattle.ir_lines.proofs.NoteLemmas.{Either, notes-then, notes-same}
-use Rattle.line_checks.specs.TopFaults.{OuterFault, OuterFaults, DeclareFault, DefineFault}
+use Rattle.text_resolve.specs.TopFaults.{OuterFault, OuterFaults, DeclareFault, DefineFault}
 use Rattle.ir_resolve.specs.TextFaults.{HasTextFault, name_twice, unknown_name, misspelled, case_width, no_strategy, unknown_extern, bad_layout, reserved, pointer_cast, miscounted, CaseOfOtherWidth, miscounts}
-use Rattle.text_resolve.specs.Lost.{unknown_name as lost_name, spelled_wrong, pointer_cast as lost_cast, counted_wrong, Lost, miscounts_in, IsOtherWidth, WidthsBehind, LineLostOf, BodyLostOf, FunctionLost}
+use Rattle.text_resolve.specs.Lost.{Lost, IsOtherWidth, WidthsBehind, BodyWidths, LineLostOf, BlocksLostOf, FunctionLost}
+use Rattle.module_build.specs.Founds.{Found}
+use Rattle.module_build.specs.Lost.{unknown_name as lost_name, spelled_wrong, pointer_cast as lost_cast, counted_wrong, miscounts_in}
+use Rattle.text_resolve.proofs.BlockContents.{block-in-body, line-in-block, label-is}
 use Rattle.text_resolve.specs.Built.{FunctionsLost}
 use Rattle.text_resolve.proofs.Contained.{contained-found, found-contained}
 use Rattle.text_resolve.proofs.Heads.{IsDefined, line-defined, IsDefinition, defined-line, IsHeadLine, line-of-head, SaysHead}
@@ -106,18 +109,11 @@ fault-of-widths form lines func line code before here behind (switch width value
     f.here f.here.says (contained-found _ (cases_of behind) line code f) f.faulty.0 f.faulty.1 refl f.faulty.2
 fault-of-widths form lines func line code before here behind _ defined whole says f = absurd f
 
-fault-of-line : (form : Form) (lines : List Line) (func : Definition) (line code : ℕ) (before : List Line) (here : Line) (after : List Line)
-    → Contains (definitions_of lines) func → func.body ≡ before ++ here ∷ after → Contains func.body here
-    → LineLostOf form (scope_of lines func) before here after line code → HasTextFault form lines line code
-fault-of-line form lines func line code before here after defined whole inside (inl f) =
-    fault-of-lost form lines func here line code defined inside f.0 f.1
-fault-of-line form lines func line code before here after defined whole inside (inr w) =
-    fault-of-widths form lines func line code before here after here.says defined whole refl w
-
-fault-of-body : (form : Form) (lines : List Line) (func : Definition) (line code : ℕ) → Contains (definitions_of lines) func
-    → BodyLostOf form (scope_of lines func) func.body line code → HasTextFault form lines line code
-fault-of-body form lines func line code defined f =
-    fault-of-line form lines func line code f.before f.here f.after defined f.whole (contained-found _ func.body line code f) f.faulty
+fault-of-blocks_lost : (form : Form) (lines : List Line) (func : Definition) (line code : ℕ) → Contains (definitions_of lines) func
+    → BlocksLostOf form (scope_of lines func) (blocks_of func) line code → HasTextFault form lines line code
+fault-of-blocks_lost form lines func line code defined f =
+    let inside = block-in-body func f.here (contained-found _ (blocks_of func) line code f) f.faulty.here (contained-found _ f.here.lines line code f.faulty) in
+    fault-of-lost form lines func f.faulty.here line code defined inside f.faulty.faulty.0 f.faulty.faulty.1
 
 inserted-named : (one name : List ℕ) → one ≡ name → IsInsertedName name → IsInsertedName one
 inserted-named one name e n = subst IsInsertedName (sym e) n
@@ -145,7 +141,9 @@ fault-in-function : (form : Form) (lines : List Line) (func : Definition) (line 
 unfolding FunctionLost
 fault-in-function form lines func line code defined (inl (inl f)) = fault-of-values form lines func line code defined f
 fault-in-function form lines func line code defined (inl (inr f)) = fault-of-blocks form lines func line code defined f
-fault-in-function form lines func line code defined (inr f) = fault-of-body form lines func line code defined f
+fault-in-function form lines func line code defined (inr (inl w)) =
+    fault-of-widths form lines func line code w.before w.here w.after w.here.says defined w.whole refl w.faulty
+fault-in-function form lines func line code defined (inr (inr f)) = fault-of-blocks_lost form lines func line code defined f
 
 -- ---- at the top: from what is found to the fault
 
@@ -260,18 +258,28 @@ lost-fault form lines line code (inr (inr f)) =
 -- ---- from the fault to what is found
 
 in-function : (form : Form) (lines : List Line) (func : Definition) (line code : ℕ) → Contains (definitions_of lines) func
-    → FoundByNames form func line code ⊎ BodyLostOf form (scope_of lines func) func.body line code → TextLost form lines line code
+    → FoundByNames form func line code ⊎ (BodyWidths func.body line code ⊎ BlocksLostOf form (scope_of lines func) (blocks_of func) line code)
+    → TextLost form lines line code
 unfolding FunctionLost
 in-function form lines func line code defined f =
     inr (inr (found-contained (λ one. FunctionLost form (scope_of lines one) one) (definitions_of lines) func line code defined f))
 
+-- no test finds a label
 by-line : (form : Form) (lines : List Line) (line code : ℕ) (test : Scope → Statement → Bool) (b : InBody lines line test)
+    → ((name : List ℕ) → test (scope_of lines b.func) (label name) ≡ false)
     → (test (scope_of lines b.func) b.found.says ≡ true → Lost form (scope_of lines b.func) b.found.says code) → TextLost form lines line code
-by-line form lines line code test b make =
-    let f = found-contained (λ here l c. (l ≡ here.number) × Lost form (scope_of lines b.func) here.says c) b.func.body b.found line code b.inside
-    (sym b.number, make b.faulty) in
-    in-function form lines b.func line code b.defined
-    (inr (record { before = f.before; here = f.here; after = f.after; whole = f.whole; faulty = inl f.faulty }))
+by-line form lines line code test b none make = by (is_label b.found.says) refl
+  where
+    by : (is : Bool) → is_label b.found.says ≡ is → TextLost form lines line code
+    by true is =
+        let l = label-is b.found.says is in
+        absurd (let bad : true ≡ false = sym b.faulty ∙ ap (test (scope_of lines b.func)) l.1 ∙ none l.0 in cc)
+    by false is =
+        let i = line-in-block b.func b.found is b.inside in
+        let f = found-contained (λ here n c. (n ≡ here.number) × Lost form (scope_of lines b.func) here.says c) i.block.lines b.found line code i.here
+        (sym b.number, make b.faulty) in
+        in-function form lines b.func line code b.defined
+        (inr (inr (found-contained (λ here. Found (LineLostOf form (scope_of lines b.func)) here.lines) (blocks_of b.func) i.block line code i.inside f)))
 
 count-lost : (form : Form) (scope : Scope) (what : Statement) → form ≡ Rewritten → miscounts scope what ≡ true → miscounts_in form what ≡ true
 count-lost form scope (statepoint result made live) e t = ap (λ (one : Form). miscounts_in one (statepoint result made live)) e ∙ t
@@ -279,14 +287,14 @@ count-lost form scope _ e t = absurd (let bad : false ≡ true = t in cc)
 
 width-found : (form : Form) (lines : List Line) (line : ℕ) → CaseOfOtherWidth lines line → TextLost form lines line 5
 width-found form lines line w =
-    in-function form lines w.func line 5 w.defined (inr (record {
+    in-function form lines w.func line 5 w.defined (inr (inl (record {
       before = w.before;
       here = record { number = w.number; says = switch w.width w.value w.default };
       after = w.behind;
       whole = w.whole;
-      faulty = inr (found-contained (λ here l c. (c ≡ 5) × (l ≡ here.number) × IsOtherWidth w.width here.says) (cases_of w.behind)
+      faulty = (found-contained (λ here l c. (c ≡ 5) × (l ≡ here.number) × IsOtherWidth w.width here.says) (cases_of w.behind)
           (record { number = line; says = switch_case w.other w.case w.to }) line 5 w.is_case (refl, refl, w.differs));
-    }))
+    })))
 
 outside-found : (form : Form) (lines : List Line) (l : Line) (line code : ℕ) → Contains lines l → l.number ≡ line
     → OuterFault form (names lines) (layouts lines) l.says code → TextLost form lines line code
@@ -372,17 +380,17 @@ reserved-found form lines line (names_label source func one defined within e ins
 
 fault-lost : (form : Form) (lines : List Line) (line code : ℕ) → HasTextFault form lines line code → TextLost form lines line code
 fault-lost form lines line _ (name_twice f) = twice-found form lines line f
-fault-lost form lines line _ (unknown_name b) = by-line form lines line 4 _ b (λ t. lost_name refl t)
-fault-lost form lines line _ (misspelled b) = by-line form lines line 5 _ b (λ t. spelled_wrong refl t)
+fault-lost form lines line _ (unknown_name b) = by-line form lines line 4 _ b (λ name. refl) (λ t. lost_name refl t)
+fault-lost form lines line _ (misspelled b) = by-line form lines line 5 _ b (λ name. refl) (λ t. spelled_wrong refl t)
 fault-lost form lines line _ (case_width w) = width-found form lines line w
 fault-lost form lines line _ (no_strategy t) = outside-found form lines t.found line 10 t.inside t.number (strategy-says form lines t.found.says t.faulty)
 fault-lost form lines line _ (unknown_extern u) =
     outside-found form lines (record { number = line; says = declare u.answer u.name u.parameters }) line 12 u.stands refl (inr (inl (refl, u.unknown)))
 fault-lost form lines line _ (bad_layout t) = outside-found form lines t.found line 13 t.inside t.number (layout-says form lines t.found.says t.faulty)
 fault-lost form lines line _ (reserved r) = reserved-found form lines line r
-fault-lost form lines line _ (pointer_cast b) = by-line form lines line 16 _ b (λ t. lost_cast refl t)
+fault-lost form lines line _ (pointer_cast b) = by-line form lines line 16 _ b (λ name. refl) (λ t. lost_cast refl t)
 fault-lost form lines line _ (miscounted e b) =
-    by-line form lines line 18 _ b (λ t. counted_wrong refl (count-lost form (scope_of lines b.func) b.found.says e t))
+    by-line form lines line 18 _ b (λ name. refl) (λ t. counted_wrong refl (count-lost form (scope_of lines b.func) b.found.says e t))
 
 -- ---- the passes over a text, one after another, with what its tables hold
 

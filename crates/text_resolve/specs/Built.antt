@@ -4,7 +4,7 @@ use Rattle.ir_ast.specs.declared.modules.Form.{Form}
 use Rattle.ir_lines.specs.Statements.{Line}
 use Rattle.ir_lines.specs.Sections.{Definition}
 use Rattle.ir_lines.specs.Scope.{scope_of}
-use Rattle.line_checks.specs.Founds.{Found}
+use Rattle.module_build.specs.Founds.{Found}
 use Rattle.text_resolve.specs.Lost.{FunctionLost}
 
 abbrev pub FunctionLostAt : Form → List Line → List Definition → Definition → List Definition → ℕ → ℕ → Type 0

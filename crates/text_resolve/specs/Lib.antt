@@ -1,3 +1,4 @@
+pub mod TopFaults
 pub mod Rows
 pub mod Lost
 pub mod Built

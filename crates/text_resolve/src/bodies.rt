@@ -1,21 +1,18 @@
-//! What resolving the lines of a function loses, and the lines of the cases of its instructions.
+//! The lines of the cases of the instructions of a function.
 
 ghost use Rattle.std.specs.Prelude.{◌≡◌, ◌≢◌, ◌↔◌, [], ◌∷◌, ◌++◌, map, IsTrue, IfOk, OnOk, if◌then◌else◌};
 ghost use Rattle.ir_lines.specs.Notes.{Notes};
 ghost use Rattle.ir_lines.specs.ReadLines.{is_instruction};
 ghost use Rattle.ir_lines.specs.Sections.{cases_of};
-ghost use Rattle.ir_lines.specs.Views.{said, seen_line, seen_lines};
+ghost use Rattle.ir_lines.specs.Views.{said, seen_lines};
 ghost use Rattle.ir_resolve.specs.Resolved.{case_lines};
-ghost use Rattle.line_checks.specs.LineFaults.{tables_in};
-ghost use Rattle.text_resolve.specs.Lost.{OtherWidths, WidthsBehind, LineLost, BodyLost};
+ghost use Rattle.text_resolve.specs.Lost.{OtherWidths, WidthsBehind, BodyWidths};
 ghost use Rattle.text_resolve.specs.Rows.{row_said, rows_of};
 
-use crate::lines::note_line;
 use case_lines::CaseLines;
 use ir_lines::best::First;
 use ir_reader::{NumberedReading, Reading};
-use line_checks::lines::Scope;
-use module_build::build::behind;
+use module_build::lines::behind;
 use std::alloc::{AllocError, Global};
 
 // Whether it stands for an instruction.
@@ -91,38 +88,34 @@ fn with_row(cases: CaseLines, reading: &Reading, row: &[u32]) -> Result<CaseLine
     }
 }
 
-// Adds the lines of the cases of a line, and notes what resolving it loses.
+// Adds the lines of the cases of a line, and notes those of another width.
 fn note_one(
-    scope: &Scope,
     alloc: Global,
-    line: &NumberedReading,
+    reading: &Reading,
     behind: &[NumberedReading],
     cases: CaseLines,
     first: &mut First,
 ) -> Result<CaseLines, AllocError>
-    ensures cases { IfOk result (λ more. more ≡ cases ++ row_said (seen_lines behind.now) (said line.now.reading)) }
-    ensures noted { OnOk result (Notes first.old.found first.new.found
-        (LineLost scope.now.form (tables_in scope.now) (seen_line line.now) (seen_lines behind.now))) }
+    ensures cases { IfOk result (λ more. more ≡ cases ++ row_said (seen_lines behind.now) (said reading.now)) }
+    ensures noted { OnOk result (Notes first.old.found first.new.found (WidthsBehind (said reading.now) (seen_lines behind.now))) }
 {
-    note_line(scope, alloc, line, first)?;
     let mut row = Vec::new(alloc);
-    note_switch(&line.reading, behind, &mut row, first)?;
-    with_row(cases, &line.reading, row.as_slice())
+    note_switch(reading, behind, &mut row, first)?;
+    with_row(cases, reading, row.as_slice())
 }
 
-/// The lines of the cases of each instruction of these lines; notes what resolving them loses.
+/// The lines of the cases of each instruction of these lines; notes the cases of another width than their `switch`.
 pub(crate) fn note_body(
-    scope: &Scope,
     alloc: Global,
     body: &[NumberedReading],
     first: &mut First,
 ) -> Result<CaseLines, AllocError>
     ensures cases { IfOk result (λ cases. cases ≡ rows_of (seen_lines body.now)) }
-    ensures noted { OnOk result (Notes first.old.found first.new.found (BodyLost scope.now.form (tables_in scope.now) (seen_lines body.now))) }
+    ensures noted { OnOk result (Notes first.old.found first.new.found (BodyWidths (seen_lines body.now))) }
 {
     let mut cases = CaseLines::new(alloc);
     for (i, line) in body.iter().enumerate() {
-        cases = note_one(scope, alloc, line, behind(body, i), cases, first)?;
+        cases = note_one(alloc, &line.reading, behind(body, i), cases, first)?;
     }
     Ok(cases)
 }

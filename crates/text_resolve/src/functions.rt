@@ -13,9 +13,10 @@ ghost use Rattle.ir_lines.specs.Tables.{seen_definition, seen_block, IsTop};
 ghost use Rattle.ir_lines.specs.Views.{seen_lines};
 ghost use Rattle.module_build.specs.Built.{known_with, lined_function};
 ghost use Rattle.module_build.specs.Known.{known_in};
+ghost use Rattle.module_build.specs.Lost.{tables_in};
 ghost use Rattle.module_build.specs.Placed.{IsPlacedFunction};
 ghost use Rattle.text_resolve.specs.Built.{FunctionsLost};
-ghost use Rattle.text_resolve.specs.Lost.{FunctionLost};
+ghost use Rattle.text_resolve.specs.Lost.{LinesLost, BlocksLost, FunctionLost};
 ghost use Rattle.text_resolve.specs.Rows.{rows_of};
 
 use crate::bodies::note_body;
@@ -26,8 +27,10 @@ use ir_lines::operands::type_of;
 use ir_lines::scope::{Local, Top};
 use ir_lines::sections::{BlockLines, Definition, HeadNames, blocks};
 use ir_reader::{NumberedReading, Reading};
-use line_checks::lines::Scope as Judged;
-use module_build::build::{Scope, arguments_of, behind, keep, owned};
+use module_build::build::owned;
+use module_build::heads::arguments_of;
+use module_build::lines::{behind, keep, resolve_line};
+use module_build::scope::Scope;
 use std::alloc::{AllocError, Global};
 
 // The room for the instructions of the lines of a block; behind a `switch` stand its cases, which are none.
@@ -44,14 +47,16 @@ fn insts(
     alloc: Global,
     lines: &[NumberedReading],
     numbers: &mut Vec<u32>,
+    first: &mut First,
 ) -> Result<Vec<Inst>, AllocError>
     ensures insts { IfOk result (λ insts. insts.items ≡ insts_of (known_in scope.now) (seen_lines lines.now)) }
     ensures numbers { OnOk result (numbers.new.items
         ≡ numbers.old.items ++ numbers_of (known_in scope.now) (seen_lines lines.now)) }
+    ensures noted { OnOk result (Notes first.old.found first.new.found (LinesLost scope.now.form (tables_in scope.now) (seen_lines lines.now))) }
 {
     let mut insts = Vec::with_capacity(alloc, room_for(lines))?;
     for (i, line) in lines.iter().enumerate() {
-        let made = scope.instruction(alloc, &line.reading, behind(lines, i))?;
+        let made = resolve_line(scope, alloc, line, behind(lines, i), first)?;
         keep(&mut insts, numbers, line.line, made)?;
     }
     Ok(insts)
@@ -63,6 +68,7 @@ fn block(
     alloc: Global,
     block: &BlockLines,
     numbers: &mut Vec<u32>,
+    first: &mut First,
 ) -> Result<Block, AllocError>
     requires { EndsAtTerminator (insts_of (known_in scope.now) (seen_lines block.now.lines.now)) }
     ensures block { IfOk result (λ made. made ≡ record {
@@ -71,8 +77,9 @@ fn block(
     }) }
     ensures numbers { OnOk result (numbers.new.items
         ≡ numbers.old.items ++ numbers_of (known_in scope.now) (seen_lines block.now.lines.now)) }
+    ensures noted { OnOk result (Notes first.old.found first.new.found (LinesLost scope.now.form (tables_in scope.now) (seen_lines block.now.lines.now))) }
 {
-    let insts = insts(scope, alloc, block.lines, numbers)?;
+    let insts = insts(scope, alloc, block.lines, numbers, first)?;
     let name = owned(alloc, block.name)?;
     Ok(Block::of(name, insts))
 }
@@ -83,15 +90,17 @@ fn built_blocks(
     alloc: Global,
     blocks: &[BlockLines],
     numbers: &mut Vec<u32>,
+    first: &mut First,
 ) -> Result<Vec<Block>, AllocError>
     requires { All (λ block. EndsAtTerminator (insts_of (known_in scope.now) block.lines)) (map seen_block blocks.now) }
     ensures blocks { IfOk result (λ built. built.items ≡ map (block_of (known_in scope.now)) (map seen_block blocks.now)) }
     ensures numbers { OnOk result (numbers.new.items ≡ numbers.old.items
         ++ flat_map (λ block. numbers_of (known_in scope.now) block.lines) (map seen_block blocks.now)) }
+    ensures noted { OnOk result (Notes first.old.found first.new.found (BlocksLost scope.now.form (tables_in scope.now) (map seen_block blocks.now))) }
 {
     let mut built = Vec::with_capacity(alloc, blocks.len())?;
     for one in blocks {
-        let made = block(scope, alloc, one, numbers)?;
+        let made = block(scope, alloc, one, numbers, first)?;
         built.push(made)?;
     }
     Ok(built)
@@ -104,15 +113,17 @@ fn function(
     func: &Definition,
     names: &HeadNames,
     blocks: &[BlockLines],
+    first: &mut First,
 ) -> Result<Func, AllocError>
     requires names { map (λ n. n.items) names.now.arguments.items
         ≡ map (λ one. one.name) (arguments_named func.now.line [] (map seen_argument func.now.arguments.now)) }
     requires blocks { map seen_block blocks.now ≡ blocks_of (seen_definition func.now) }
     requires placed { IsPlacedFunction (known_in scope.now) (seen_definition func.now) }
-    ensures { IfOk result (λ made. made ≡ lined_function (known_in scope.now) (seen_definition func.now)) }
+    ensures made { IfOk result (λ made. made ≡ lined_function (known_in scope.now) (seen_definition func.now)) }
+    ensures noted { OnOk result (Notes first.old.found first.new.found (BlocksLost scope.now.form (tables_in scope.now) (map seen_block blocks.now))) }
 {
     let mut numbers = Vec::new(alloc);
-    let built = built_blocks(scope, alloc, blocks, &mut numbers)?;
+    let built = built_blocks(scope, alloc, blocks, &mut numbers, first)?;
     let name = owned(alloc, func.name)?;
     let args = arguments_of(alloc, func.line, func.arguments, names.arguments.as_slice())?;
     let whole = Func::of(name, type_of(func.answer), args, built);
@@ -144,14 +155,13 @@ fn resolve_function(
     let names = HeadNames::of(alloc, func.arguments)?;
     let sections = blocks(alloc, func, names.entry.as_slice())?;
     let local = Local::of(alloc, form, func, &names, sections.as_slice(), first)?;
-    let judged = Judged {
+    let cases = note_body(alloc, func.body, first)?;
+    let scope = Scope {
         form,
         top,
         local: &local,
     };
-    let cases = note_body(&judged, alloc, func.body, first)?;
-    let scope = Scope { top, local: &local };
-    let func = function(&scope, alloc, func, &names, sections.as_slice())?;
+    let func = function(&scope, alloc, func, &names, sections.as_slice(), first)?;
     Ok(Built { func, cases })
 }
 

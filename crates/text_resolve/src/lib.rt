@@ -11,8 +11,8 @@ ghost use Rattle.module_build.specs.Placed.{IsPlaced};
 
 mod bodies;
 mod functions;
-mod lines;
 mod texts;
+mod tops;
 
 pub use texts::{Resolution, resolve};
 

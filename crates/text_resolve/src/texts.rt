@@ -8,6 +8,7 @@ ghost use Rattle.ir_resolve.specs.TextFaults.{HasTextFault};
 ghost use Rattle.module_build.specs.Placed.{IsPlaced};
 
 use crate::functions::resolve_functions;
+use crate::tops::note_lines;
 use case_lines::CaseLines;
 use ir_ast::{Form, Module};
 use ir_lines::best::First;
@@ -15,8 +16,7 @@ use ir_lines::faults::Fault;
 use ir_lines::scope::Top;
 use ir_lines::sections::definitions;
 use ir_reader::NumberedReading;
-use line_checks::tops::note_lines;
-use module_build::build::layouts_of;
+use module_build::heads::layouts_of;
 use sp_ids::Memory;
 use std::alloc::Global;
 

@@ -3,6 +3,8 @@ use Rattle.std.proofs.lemmas.List.{length-map}
 use Rattle.ir_ast.specs.Types.{is_pointer}
 use Rattle.ir_ast.specs.Values.{value_types}
 use Rattle.live_sets.proofs.WholeLaws.{few_values, values_are}
+use Rattle.live_sets.proofs.EndsLaws.{empty_at}
+use Rattle.live_sets.proofs.JoinLaws.{none_joined}
 use Rattle.live_sets.proofs.phis.joins.Goals as goal
 
 pub marked-requires : goal.marked-requires
@@ -15,3 +17,8 @@ marked-requires c =
 pub all_joins-requires-clause-values : goal.all_joins-requires-clause-values
 all_joins-requires-clause-values c =
     c.as_slice-5.ensures.value ∙ c.in_ok-values.ensures ∙ values_are c.args.func.now.content c.as_slice.result.now (c.as_slice.ensures.value ∙ c.in_ok-marks.ensures)
+
+pub returns-then-not-has_join : goal.returns-then-not-has_join
+returns-then-not-has_join c =
+    none_joined c.args.func.now.content c.args.bases.now c.in_ok-none.none.items (omega (arith, c.in_ok-none.ensures.whole, ap length c.blocks-count.ensures.value))
+    (λ b. empty_at c.in_ok-none.none.items b c.in_ok-none.ensures.empty) (c.has_join.ensures c.if-not-has_join.true)

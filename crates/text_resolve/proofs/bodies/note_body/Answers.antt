@@ -4,9 +4,8 @@ use Rattle.ir_reader.specs.declared.raw.NumberedReading.{NumberedReading}
 use Rattle.ir_lines.specs.Notes.{Notes}
 use Rattle.ir_lines.specs.Statements.{Line}
 use Rattle.ir_lines.specs.Views.{said, seen_line, seen_lines}
-use Rattle.line_checks.specs.LineFaults.{tables_in}
-use Rattle.line_checks.proofs.Founds.{notes-turn, notes-all, seen-at}
-use Rattle.text_resolve.specs.Lost.{LineLost, LineLostAt}
+use Rattle.module_build.proofs.Founds.{notes-turn, notes-all, seen-at}
+use Rattle.text_resolve.specs.Lost.{WidthsAt, WidthsBehind}
 use Rattle.text_resolve.specs.Rows.{row_said, rows_of}
 use Rattle.text_resolve.proofs.RowNotes.{rows-more, rows-end}
 use Rattle.text_resolve.proofs.bodies.note_body.Goals as goal
@@ -14,19 +13,17 @@ use Rattle.text_resolve.proofs.bodies.note_body.Goals as goal
 pub loop-i-preserved : goal.loop-i-preserved
 loop-i-preserved c =
     let here = seen_line c.index-body-i.result in
-    let form = c.args.scope.now.form in
-    let tables = tables_in c.args.scope.now in
     record {
       made = rows-more c.args.body.now c.loop-i.i c.index-body-i.result c.loop-i.cases c.in_ok-cases.cases (rows_of (seen_lines c.args.body.now))
           c.loop-i-test.true c.index-body-i.is
           (c.in_ok-cases.ensures.cases
           ∙ ap (λ (ys : List NumberedReading). c.loop-i.cases ++ row_said (seen_lines ys) (said c.index-body-i.result.reading)) c.behind.ensures)
           c.loop-i.invariant.made;
-      noted = notes-turn (LineLostAt form tables) (seen_lines c.args.body.now) c.loop-i.i here
+      noted = notes-turn WidthsAt (seen_lines c.args.body.now) c.loop-i.i here
           c.args.first.now.found c.loop-i.first.found c.note_one.new.first.found
           (seen-at seen_line c.args.body.now c.loop-i.i c.index-body-i.result c.loop-i-test.true c.index-body-i.is)
           c.loop-i.invariant.noted
-          (subst (λ (after : List Line). Notes c.loop-i.first.found c.note_one.new.first.found (LineLost form tables here after))
+          (subst (λ (after : List Line). Notes c.loop-i.first.found c.note_one.new.first.found (WidthsBehind here.says after))
           (ap seen_lines c.behind.ensures ∙ sym (drop-map seen_line (c.loop-i.i + 1) c.args.body.now)) c.in_ok-cases.ensures.noted);
     }
 
@@ -36,6 +33,6 @@ returns c =
     let past : length c.args.body.now ≤ c.loop-i.i = omega (arith, end) in
     record {
       cases = rows-end c.args.body.now c.loop-i.i c.loop-i.cases (rows_of (seen_lines c.args.body.now)) past c.loop-i.invariant.made;
-      noted = notes-all (LineLostAt c.args.scope.now.form (tables_in c.args.scope.now)) (seen_lines c.args.body.now) c.loop-i.i c.args.first.now.found c.loop-i.first.found
+      noted = notes-all WidthsAt (seen_lines c.args.body.now) c.loop-i.i c.args.first.now.found c.loop-i.first.found
           (end ∙ sym (length-map c.args.body.now seen_line)) c.loop-i.invariant.noted;
     }

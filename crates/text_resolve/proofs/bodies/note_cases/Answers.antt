@@ -3,7 +3,7 @@ use Rattle.std.proofs.lemmas.List.{length-map}
 use Rattle.list_laws.proofs.Places.{drop_item}
 use Rattle.ir_lines.specs.Sections.{is_case, cases_of}
 use Rattle.ir_lines.specs.Views.{said, seen_line, seen_lines}
-use Rattle.line_checks.proofs.Founds.{notes-turn, notes-all, seen-at}
+use Rattle.module_build.proofs.Founds.{notes-turn, notes-all, seen-at}
 use Rattle.text_resolve.proofs.CaseLines.{IsCaseAt, case-at, cases-more, cases-stop, cases-end, not-case}
 use Rattle.module_build.proofs.CaseLemmas.{moved}
 use Rattle.text_resolve.specs.Lost.{OtherWidthAt}

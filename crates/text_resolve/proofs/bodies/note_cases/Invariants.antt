@@ -3,7 +3,7 @@ use Rattle.ir_lines.specs.Notes.{Notes}
 use Rattle.ir_lines.specs.Sections.{cases_of}
 use Rattle.ir_lines.specs.Views.{seen_lines}
 use Rattle.text_resolve.proofs.CaseLines.{AreCases}
-use Rattle.line_checks.proofs.Founds.{FoundUpTo}
+use Rattle.module_build.proofs.Founds.{FoundUpTo}
 use Rattle.text_resolve.specs.Lost.{OtherWidthAt}
 use Rattle.text_resolve.proofs.RowNotes.{numbers_of}
 use Rattle.text_resolve.proofs.bodies.note_cases.Given as goal

@@ -1,17 +1,15 @@
 use Rattle.std.proofs.Common.{◌≡◌, ◌∙◌, ℕ, [], ◌∷◌, ◌++◌, List, ap}
 use Rattle.std.specs.Prelude.{if◌then◌else◌}
 use Rattle.ir_lines.specs.ReadLines.{is_instruction}
-use Rattle.ir_lines.specs.Views.{said, seen_line, seen_lines}
+use Rattle.ir_lines.specs.Views.{said, seen_lines}
 use Rattle.ir_resolve.specs.Resolved.{case_lines}
-use Rattle.line_checks.specs.LineFaults.{tables_in}
-use Rattle.text_resolve.proofs.LostNotes.{notes-line}
 use Rattle.text_resolve.proofs.ScopeLemmas.{always}
 use Rattle.text_resolve.proofs.BuiltText.{if-ok}
 use Rattle.text_resolve.proofs.bodies.note_one.Goals as goal
 
 pub returns-clause-cases : goal.returns-clause-cases
 returns-clause-cases c =
-    let what = said c.args.line.now.reading in
+    let what = said c.args.reading.now in
     let row : c.as_slice.result.now ≡ case_lines (seen_lines c.args.behind.now) what =
     c.as_slice.ensures.value ∙ c.in_ok-note_switch.ensures.row
     ∙ ap (λ (ns : List ℕ). ns ++ case_lines (seen_lines c.args.behind.now) what) c.new-row.ensures.items in
@@ -21,5 +19,4 @@ returns-clause-cases c =
 pub returns-clause-noted : goal.returns-clause-noted
 returns-clause-noted c =
     always c.with_row.result _
-    (notes-line c.args.scope.now.form (tables_in c.args.scope.now) (seen_line c.args.line.now) (seen_lines c.args.behind.now)
-    c.args.first.now.found c.note_line.new.first.found c.note_switch.new.first.found c.in_ok-note_line.ensures c.in_ok-note_switch.ensures.noted)
+    c.in_ok-note_switch.ensures.noted

@@ -1,5 +1,6 @@
-use Rattle.std.proofs.Common.{◌∙◌, [], ◌∷◌, ◌++◌, List, refl, ap}
+use Rattle.std.proofs.Common.{◌≡◌, ◌∙◌, [], ◌∷◌, ◌++◌, List, length, refl, ap, sym, arith}
 use Rattle.std.specs.Prelude.{map, flat_map}
+use Rattle.std.proofs.lemmas.List.{length-map}
 use Rattle.ir_ast.specs.Blocks.{BasicBlock, EndsAtTerminator}
 use Rattle.ir_lines.specs.declared.sections.BlockLines.{BlockLines as BlockTable}
 use Rattle.ir_lines.specs.Sections.{BlockLines}
@@ -7,6 +8,9 @@ use Rattle.ir_lines.specs.Tables.{seen_block}
 use Rattle.ir_lines.specs.Modules.{block_of, insts_of, numbers_of}
 use Rattle.ir_lines.proofs.Steps.{all-at, made-more}
 use Rattle.module_build.specs.Known.{known_in}
+use Rattle.module_build.specs.Lost.{tables_in}
+use Rattle.module_build.proofs.Founds.{notes-turn, notes-all, seen-at}
+use Rattle.text_resolve.specs.Lost.{BlockLostAt}
 use Rattle.text_resolve.proofs.functions.built_blocks.Goals as goal
 
 pub block-requires : goal.block-requires
@@ -27,4 +31,13 @@ loop-one-preserved c = record {
       c.loop-one.one-index c.one-item.result c.loop-one.numbers.items c.block.new.numbers.items
       (c.args.numbers.now.items ++ flat_map (λ (one : BlockLines). numbers_of (known_in c.args.scope.now) one.lines) (map seen_block c.args.blocks.now))
       c.loop-one-test.true c.one-item.is c.in_ok-made.ensures.numbers c.loop-one.invariant.numbered;
+  noted = notes-turn (BlockLostAt c.args.scope.now.form (tables_in c.args.scope.now)) (map seen_block c.args.blocks.now) c.loop-one.one-index (seen_block c.one-item.result)
+      c.args.first.now.found c.loop-one.first.found c.block.new.first.found
+      (seen-at seen_block c.args.blocks.now c.loop-one.one-index c.one-item.result c.loop-one-test.true c.one-item.is) c.loop-one.invariant.noted c.in_ok-made.ensures.noted;
 }
+
+pub returns-clause-noted : goal.returns-clause-noted
+returns-clause-noted c =
+    let end : c.loop-one.one-index ≡ length c.args.blocks.now = omega arith in
+    notes-all (BlockLostAt c.args.scope.now.form (tables_in c.args.scope.now)) (map seen_block c.args.blocks.now) c.loop-one.one-index c.args.first.now.found
+    c.loop-one.first.found (end ∙ sym (length-map c.args.blocks.now seen_block)) c.loop-one.invariant.noted

@@ -34,8 +34,8 @@ with_lines-requires c =
     ∙ ap (λ (ns : List ℕ). ns ++ flat_map (λ (one : BlockLines). numbers_of (known_in c.args.scope.now) one.lines) (map seen_block c.args.blocks.now)) c.new-numbers.ensures.items)
     (ap (λ (func : Function). func.blocks) c.of-whole.ensures.content ∙ c.in_ok-built.ensures.blocks)
 
-pub returns : goal.returns
-returns c =
+pub returns-clause-made : goal.returns-clause-made
+returns-clause-made c =
     function-built (known_in c.args.scope.now) (seen_definition c.args.func.now) c.with_lines.result c.in_ok-args.args.items c.in_ok-built.built.items
     c.built_blocks.new.numbers.items (map seen_block c.args.blocks.now)
     c.requires.blocks

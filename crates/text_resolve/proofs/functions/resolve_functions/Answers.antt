@@ -6,7 +6,7 @@ use Rattle.ir_lines.specs.declared.sections.Definition.{Definition as Definition
 use Rattle.ir_lines.specs.Sections.{Definition}
 use Rattle.ir_lines.specs.Tables.{seen_definition}
 use Rattle.ir_lines.proofs.Steps.{all-at, made-more}
-use Rattle.line_checks.proofs.Founds.{notes-start, notes-turn, notes-all, seen-at}
+use Rattle.module_build.proofs.Founds.{notes-start, notes-turn, notes-all, seen-at}
 use Rattle.module_build.specs.Placed.{IsPlacedFunction}
 use Rattle.module_build.specs.Built.{known_with}
 use Rattle.module_build.proofs.BuiltLemmas.{lined_with}

@@ -4,7 +4,7 @@ use Rattle.ir_lines.specs.Notes.{Notes}
 use Rattle.ir_lines.specs.Sections.{Definition}
 use Rattle.ir_lines.specs.Statements.{Line}
 use Rattle.ir_lines.specs.Tables.{seen_definition, IsTop}
-use Rattle.line_checks.proofs.Founds.{FoundUpTo}
+use Rattle.module_build.proofs.Founds.{FoundUpTo}
 use Rattle.module_build.specs.Built.{known_with, lined_function}
 use Rattle.text_resolve.specs.Built.{FunctionLostAt}
 use Rattle.text_resolve.specs.Rows.{rows_of}

@@ -1,5 +1,0 @@
-pub mod TypeLists
-pub mod ExternalLemmas
-pub mod OuterLemmas
-pub mod Founds
-pub mod ScopeLemmas

@@ -1,9 +1,0 @@
-use Rattle.std.specs.List.{Contains}
-use Rattle.ir_lines.specs.Externals.{basics, helpers}
-use Rattle.line_checks.proofs.ExternalLemmas.{not-in-first, is-false}
-use Rattle.line_checks.proofs.tops.is_whole_name.Goals as goal
-
-pub returns : goal.returns
-returns c =
-    not-in-first basics helpers c.args.name.now c.is_helper.result
-    (is-false (Contains basics c.args.name.now) c.is_basic.result c.is_basic.ensures c.if-is_basic.false) c.is_helper.ensures

@@ -1,3 +1,0 @@
-pub mod TopFaults
-pub mod LineFaults
-pub mod Founds

@@ -1,0 +1,12 @@
+use Rattle.std.proofs.Common.{◌≡◌, sym, subst}
+use Rattle.line_forms.specs.declared.readings.Reading.{Reading}
+use Rattle.ir_lines.specs.Notes.{Notes}
+use Rattle.text_resolve.specs.TopFaults.{OuterFault}
+use Rattle.ir_lines.specs.Views.{said}
+use Rattle.text_resolve.proofs.tops.note_line.Goals as goal
+
+pub returns-in-Define : goal.returns-in-Define
+returns-in-Define c =
+    subst (λ (reading : Reading). Notes c.args.first.now.found c.note_head.new.first.found
+    (λ at code. (at ≡ c.args.line.now.line) × OuterFault c.args.form c.args.top.now.functions c.args.top.now.layouts (said reading) code))
+    (sym c.in-Define.is) c.note_head.ensures
