@@ -22,6 +22,7 @@ use Rattle.line_forms.specs.Slots.{Item}
 use Rattle.ir_reader.specs.Limits.{counts_as, said_counts_as, counted, counted_in, counts_fit}
 use Rattle.ir_reader.specs.Text.{Numbered}
 use Rattle.line_forms.specs.Seen.{Said}
+use Rattle.line_forms.proofs.FamilyLines.{fit_parts}
 use Rattle.line_forms.specs.Seen as says
 use Rattle.ir_lines.specs.Statements.{Statement, Line, of_form, stated, lines_of, layout, declare, define, close, label, switch_case, switch_end, gc_relocate}
 use Rattle.ir_lines.specs.Sections.{Definition, layouts_of, layout_said, definitions_of, definition_said, is_case, is_close}
@@ -126,7 +127,7 @@ same_kind form kept a = refl
 kind_is : (what : Said) → IsKept what → IsSpelled what → said_counts_as what ≡ kind_said (stated what)
 kind_is (says.label name) kept spelled = refl
 kind_is (says.line l) kept spelled =
-    let parts = parse_told (slots l.form) (tokens spelled.0) l.items [] spelled.1 in
+    let parts = parse_told (slots l.form) (tokens spelled.0) l.items [] (fit_parts l.form (tokens spelled.0) l.items [] spelled.1).0 in
     subst (λ (whole : List Item). counts_as l.form whole ≡ kind_said (of_form l.form (slice_get whole))) parts.1 (same_kind l.form kept parts.0)
 
 -- the lines were counted from here on, within the limits
