@@ -66,7 +66,7 @@ line_shape front op = simp append_assoc
 
 line_outcome : (of : TextForm) (names : Names) (inst : Instruction) (one : LineIn of names inst) (s : State) → s.form ≡ of → s.place ≡ places.Block → counts_fit (behind_inst inst s).counts ≡ true
     → outcome s (32 ∷ 32 ∷ (result_front inst.result ++ operator_text names inst.op inst)) ≡ said (of_form one.form one.items) (behind_inst inst s)
-line_outcome of names inst one s formed inside fit =
+line_outcome of names inst one s formed inside few =
     let text : List ℕ = result_front inst.result ++ operator_text names inst.op inst in
     let what : Said = of_form one.form one.items in
     let next : next_state s (place_after inst.op) what ≡ behind_inst inst s =
@@ -75,14 +75,14 @@ line_outcome of names inst one s formed inside fit =
     let form_is : form_in s.form (tokens (32 ∷ 32 ∷ text)) ≡ Some one.form = rw (formed, indented text) one.reads.form_is in
     let fitting : fit one.form (tokens (32 ∷ 32 ∷ text)) ≡ Some (one.items, []) = rw (indented text) one.reads.whole in
     let stands : behind s.place one.form ≡ Some (place_after inst.op) = rw inside one.stands in
-    let counts : counts_fit (next_state s (place_after inst.op) what).counts ≡ true = ap (λ (n : State). counts_fit n.counts) next ∙ fit in
+    let counts : counts_fit (next_state s (place_after inst.op) what).counts ≡ true = ap (λ (n : State). counts_fit n.counts) next ∙ few in
     formed_in s (32 ∷ 32 ∷ text) one.form (place_after inst.op) one.items one.reads.clean plain form_is fitting stands one.kept one.fits counts ∙ ap (said what) next
 
 pub line_says : (of : TextForm) (names : Names) (inst : Instruction) → LineIn of names inst → InstSays of names inst
-line_says of names inst one s formed inside fit =
+line_says of names inst one s formed inside few =
     rw (line_shape (result_front inst.result) (operator_text names inst.op inst)) (rw one.says
     (says-line s (behind_inst inst s) (32 ∷ 32 ∷ (result_front inst.result ++ operator_text names inst.op inst)) (of_form one.form one.items)
-    (ends_none-clean (32 ∷ 32 ∷ (result_front inst.result ++ operator_text names inst.op inst)) one.reads.clean) (line_outcome of names inst one s formed inside fit)))
+    (ends_none-clean (32 ∷ 32 ∷ (result_front inst.result ++ operator_text names inst.op inst)) one.reads.clean) (line_outcome of names inst one s formed inside few)))
 
 -- ---- blocks
 
