@@ -73,16 +73,7 @@ impl Inst {
     }
 
     /// Gives its parts back.
-    pub fn into_parts(
-        self,
-    ) -> (
-        Option<Name>,
-        Op,
-        Ty,
-        Operands,
-        Labels,
-        Vec<(Ty, Operand)>,
-    )
+    pub fn into_parts(self) -> (Option<Name>, Op, Ty, Operands, Labels, Vec<(Ty, Operand)>)
         ensures named { result.0 ≡ self.result }
         ensures op { result.1 ≡ self.op }
         ensures ty { result.2 ≡ self.ty }

@@ -145,11 +145,7 @@ fn operands(
     }
 }
 
-fn phi_labels(
-    alloc: Global,
-    renumber: &Renumber,
-    labels: &[BlockId],
-) -> Result<Labels, Memory>
+fn phi_labels(alloc: Global, renumber: &Renumber, labels: &[BlockId]) -> Result<Labels, Memory>
     ensures { IfOk result (λ kept. kept.items ≡ map (label_kept renumber.now) (filter (has_mark renumber.now) labels.now)) }
 {
     let mut kept = SmallVec::new(alloc);
@@ -161,11 +157,7 @@ fn phi_labels(
     Ok(kept)
 }
 
-fn all_labels(
-    alloc: Global,
-    renumber: &Renumber,
-    labels: &[BlockId],
-) -> Result<Labels, Memory>
+fn all_labels(alloc: Global, renumber: &Renumber, labels: &[BlockId]) -> Result<Labels, Memory>
     ensures { IfOk result (λ kept. kept.items ≡ map (label_kept renumber.now) labels.now) }
 {
     let mut kept = SmallVec::new(alloc);
@@ -175,12 +167,7 @@ fn all_labels(
     Ok(kept)
 }
 
-fn labels(
-    alloc: Global,
-    renumber: &Renumber,
-    op: &Op,
-    labels: &[BlockId],
-) -> Result<Labels, Memory>
+fn labels(alloc: Global, renumber: &Renumber, op: &Op, labels: &[BlockId]) -> Result<Labels, Memory>
     ensures { IfOk result (λ kept. kept.items ≡ labels_kept renumber.now op.now labels.now) }
 {
     match op {
