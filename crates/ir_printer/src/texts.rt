@@ -14,7 +14,7 @@ use crate::lines::Lines;
 use crate::words::{TypeWord, strategy};
 use ir_ast::{Arg, Block, Cell, Func, Layout, Module};
 use piece_writer::{Bytes, Each, Joined, Led, Piece, PieceSink, Printer, put_text};
-use print_tables::{Called, Scope};
+use print_tables::{Called, Scope, Waypoints, is_short};
 use tool_io::{Failed, Sink};
 
 // Puts the type of a field.
@@ -86,6 +86,38 @@ impl Printer<Block> for Blocks<'_> {
     }
 }
 
+// Puts the function of a scope.
+fn put_function<W: PieceSink>(scope: &Scope<'_>, out: &mut W) -> Result<(), Failed>
+    ensures ok { OnOk result (W.took out.old out.new (function_text scope.now.layouts scope.now.funcs scope.now.func)) }
+    ensures err { OnErr result (W.failed_within out.old out.new (function_text scope.now.layouts scope.now.funcs scope.now.func)) }
+{
+    let func = scope.func();
+    let args = Joined {
+        separator: b", ",
+        row: Each {
+            printer: Heads,
+            elements: func.args(),
+        },
+    };
+    let blocks = Joined {
+        separator: b"",
+        row: Each {
+            printer: Blocks(scope),
+            elements: func.blocks(),
+        },
+    };
+    (
+        (Bytes(b"define "), TypeWord(*func.answer()), Bytes(b" @")),
+        Bytes(func.name().bytes()),
+        Bytes(b"("),
+        args,
+        Bytes(strategy()),
+        blocks,
+        Bytes(b"}\n"),
+    )
+        .put_into(out)
+}
+
 // Puts a function.
 #[derive(Clone, Copy)]
 struct Functions<'a> {
@@ -97,31 +129,13 @@ impl Printer<Func> for Functions<'_> {
     ghost element_text = { λ printer func. function_text printer.layouts.now (map content_of printer.funcs.now) func.content };
 
     fn put_element<W: PieceSink>(&self, func: &Func, out: &mut W) -> Result<(), Failed> {
-        let scope = Scope::of(self.layouts, self.funcs, func);
-        let args = Joined {
-            separator: b", ",
-            row: Each {
-                printer: Heads,
-                elements: func.args(),
-            },
-        };
-        let blocks = Joined {
-            separator: b"",
-            row: Each {
-                printer: Blocks(&scope),
-                elements: func.blocks(),
-            },
-        };
-        (
-            (Bytes(b"define "), TypeWord(*func.answer()), Bytes(b" @")),
-            Bytes(func.name().bytes()),
-            Bytes(b"("),
-            args,
-            Bytes(strategy()),
-            blocks,
-            Bytes(b"}\n"),
-        )
-            .put_into(out)
+        if is_short(func) {
+            let scope = Scope::of_short(self.layouts, self.funcs, func);
+            return put_function(&scope, out);
+        }
+        let waypoints = Waypoints::of(func);
+        let scope = Scope::of(self.layouts, self.funcs, func, &waypoints);
+        put_function(&scope, out)
     }
 }
 

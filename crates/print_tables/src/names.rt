@@ -5,8 +5,7 @@ ghost use Rattle.ir_ast.specs.Funcs.{content_of, instructions_of};
 ghost use Rattle.print_tables.specs.Names.{layout_name, function_name, block_name, value_name, result_name as name_of_result};
 ghost use Rattle.print_tables.specs.Waypoints.{instructions_from, IsWaypoint};
 
-use crate::waypoints::{MOST, Waypoint, power_for, waypoint_before, waypoints_of};
-use arrayvec::ArrayVec;
+use crate::waypoints::{Waypoint, Waypoints, waypoint_before};
 use ir_ast::{Block, Func, Layout};
 use sp_ids::{BlockId, FuncId, ValueId};
 use std::marker::Model;
@@ -18,7 +17,7 @@ pub struct Scope<'a> {
     funcs: &'a [Func],
     func: &'a Func,
     power: u32,
-    waypoints: ArrayVec<Waypoint, MOST>,
+    waypoints: &'a [Waypoint],
 }
 
 impl<'a> Model for Scope<'a> {
@@ -36,22 +35,47 @@ impl<'a> Model for Scope<'a> {
       func = scope.func.now.content;
     } };
 
-    ghost invariant = { λ scope. All (IsWaypoint scope.func.now.content.blocks) scope.waypoints.items };
+    ghost invariant = { λ scope. All (IsWaypoint scope.func.now.content.blocks) scope.waypoints.now };
 }
 
 impl<'a> Scope<'a> {
-    /// Walks over the function once.
-    pub fn of(layouts: &'a [Layout], funcs: &'a [Func], func: &'a Func) -> Scope<'a>
+    /// The scope of a function in which names are found from its waypoints.
+    pub fn of(
+        layouts: &'a [Layout],
+        funcs: &'a [Func],
+        func: &'a Func,
+        waypoints: &'a Waypoints,
+    ) -> Scope<'a>
+        requires { All (IsWaypoint func.now.content.blocks) waypoints.now }
         ensures { result ≡ record { layouts = layouts.now; funcs = map content_of funcs.now; func = func.now.content } }
     {
-        let power = power_for(func.blocks());
         Scope {
             layouts,
             funcs,
             func,
-            power,
-            waypoints: waypoints_of(func.blocks(), power),
+            power: waypoints.power(),
+            waypoints: waypoints.places(),
         }
+    }
+
+    /// The same, where names are found from the function's start.
+    pub fn of_short(layouts: &'a [Layout], funcs: &'a [Func], func: &'a Func) -> Scope<'a>
+        ensures { result ≡ record { layouts = layouts.now; funcs = map content_of funcs.now; func = func.now.content } }
+    {
+        Scope {
+            layouts,
+            funcs,
+            func,
+            power: 0,
+            waypoints: &[],
+        }
+    }
+
+    /// The function.
+    pub fn func(&self) -> &Func
+        ensures { result.now.content ≡ self.now.func }
+    {
+        self.func
     }
 
     /// The name of the layout with this place, or nothing where there is none.
@@ -85,7 +109,7 @@ impl<'a> Scope<'a> {
     pub fn value(&self, value: ValueId) -> &[u8]
         ensures { result.now ≡ value_name self.now.func value.0 }
     {
-        name_of_value(self.func, &self.waypoints, self.power, value)
+        name_of_value(self.func, self.waypoints, self.power, value)
     }
 }
 

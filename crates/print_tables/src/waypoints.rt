@@ -5,21 +5,71 @@ ghost use Rattle.ir_ast.specs.Blocks.{BasicBlock};
 ghost use Rattle.print_tables.specs.Waypoints.{IsWaypoint};
 
 use arrayvec::ArrayVec;
-use ir_ast::Block;
+use ir_ast::{Block, Func};
+use std::marker::Model;
 
 /// A place in a function's blocks, and how many results stand before it.
-#[derive(Clone, Copy, Default)]
-pub(crate) struct Waypoint {
+#[derive(Clone, Copy, Debug, Default)]
+pub struct Waypoint {
     pub results: u32,
     pub block: u32,
     pub inst: u32,
 }
 
-/// How many waypoints a function has at most.
-pub(crate) const MOST: usize = 1_024;
+// How many waypoints a function has at most.
+const MOST: usize = 1_024;
 
-/// Waypoints of these blocks: one at each so many results, of which the number is 2 to this power.
-pub(crate) fn waypoints_of(blocks: &[Block], power: u32) -> ArrayVec<Waypoint, MOST>
+// A function with fewer results is walked over from its start.
+const FEW: usize = 32;
+
+/// Waypoints of a function, from which the names of its values are found. Contracts see their list.
+#[derive(Drop)]
+pub struct Waypoints {
+    power: u32,
+    places: ArrayVec<Waypoint, MOST>,
+}
+
+impl Model for Waypoints {
+    ghost use Rattle.std.specs.Prelude.{List};
+    ghost use Rattle.print_tables.specs.declared.waypoints.Waypoint.{Waypoint as Place};
+
+    ghost Value = { List Place };
+
+    ghost view = { λ waypoints. waypoints.places.items };
+}
+
+impl Waypoints {
+    /// Walks over the function once.
+    pub fn of(func: &Func) -> Waypoints
+        ensures { All (IsWaypoint func.now.content.blocks) result }
+    {
+        let power = power_for(func.blocks());
+        Waypoints {
+            power,
+            places: waypoints_of(func.blocks(), power),
+        }
+    }
+
+    /// The power of 2 that the function has results for each of them.
+    pub(crate) fn power(&self) -> u32 {
+        self.power
+    }
+
+    /// They themselves.
+    pub(crate) fn places(&self) -> &[Waypoint]
+        ensures { result.now ≡ self.now }
+    {
+        self.places.as_slice()
+    }
+}
+
+/// Whether the function has so few results that it needs no waypoints.
+pub fn is_short(func: &Func) -> bool {
+    count_of(func.blocks()) < FEW
+}
+
+// Waypoints of these blocks: one at each so many results, of which the number is 2 to this power.
+fn waypoints_of(blocks: &[Block], power: u32) -> ArrayVec<Waypoint, MOST>
     ensures { All (IsWaypoint blocks.now) result.items }
 {
     let mask = 1usize.wrapping_shl(power).saturating_sub(1);
@@ -68,8 +118,8 @@ fn waypoint_at(results: usize, block: usize, inst: usize) -> Option<Waypoint>
     })
 }
 
-/// The power of 2 that these blocks have results for each waypoint, so that there are waypoints for all.
-pub(crate) fn power_for(blocks: &[Block]) -> u32 {
+// The power of 2 that these blocks have results for each waypoint, so that there are waypoints for all.
+fn power_for(blocks: &[Block]) -> u32 {
     let count = count_of(blocks);
     for power in 0..32 {
         if count.wrapping_shr(power) < MOST {
