@@ -15,7 +15,6 @@ use Rattle.sp_ids.specs.declared.ids.FuncId.{FuncId}
 use Rattle.sp_ids.specs.declared.ids.BlockId.{BlockId}
 use Rattle.ir_ast.specs.declared.modules.Form.{Form}
 use Rattle.ir_ast.specs.declared.cells.Cell.{Cell}
-use Rattle.ir_ast.specs.declared.cells.Cell.TheVariants as cells
 use Rattle.ir_ast.specs.Cells.{kind_of}
 use Rattle.ir_ast.specs.declared.types.Ty.{Ty}
 use Rattle.ir_ast.specs.declared.types.Ty.TheVariants as tys
@@ -58,6 +57,7 @@ use Rattle.ir_lines.proofs.LawNames.{stands, contains_get, same_by_name}
 use Rattle.module_laws.proofs.LawFacts.{not-true}
 use Rattle.module_laws.proofs.LawHeads.{HeadFrom, from_definition, from_declaration, heads-from}
 use Rattle.read_back.specs.Said.{word_of, literal_of, argument_says, passed_says, parameter_says, made_says, statepoint_says, step_says, return_says, case_says, operator_says, said_by}
+use Rattle.read_back.proofs.Cells.{cell_reads}
 use Rattle.read_back.proofs.BackLines.{said}
 use Rattle.read_back.proofs.BackLists.{CalleeBelow}
 use Rattle.read_back.proofs.BackInsts.{IsPrintedIn, passing, guards}
@@ -283,11 +283,7 @@ kind_checked names values cell [] fit is = absurd fit
 kind_checked names values cell (o ∷ []) fit is = absurd fit.1
 kind_checked names values cell (o ∷ p ∷ []) fit is = absurd fit.1.1
 kind_checked names values cell (o ∷ p ∷ q ∷ os) fit is =
-    ap (λ (x : Operand). gives_kind (passed_says names (tys.Int 64) x)) (same_Some q (operands.Int (kind_of cell)) is) ∙ one cell
-  where
-    one : (cell : Cell) → gives_kind (passed_says names (tys.Int 64) (operands.Int (kind_of cell))) ≡ true
-    one cells.I64 = refl
-    one cells.Ptr = refl
+    ap (λ (x : Operand). gives_kind (passed_says names (tys.Int 64) x)) (same_Some q (operands.Int (kind_of cell)) is) ∙ (cell_reads cell).kind names
 
 task_is : (scope : Scope) (name : List ℕ) → HeadSays scope name true types.Void (types.Managed ∷ []) → is_task (head_named scope name) ≡ true
 task_is scope name s =

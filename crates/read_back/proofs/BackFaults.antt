@@ -7,7 +7,6 @@ use Rattle.std.specs.List.{AllByRecursion, AllZip, Contains, list_all, list_any,
 use Rattle.std.proofs.lemmas.List.Folds.{list_any_at}
 use Rattle.std.proofs.lemmas.List.Elements.{recursion_from_All, All-from_recursion, All-contains, All-contains_itself, All-weaker, Contains-append_left, Contains-append_right}
 use Rattle.ir_ast.specs.declared.cells.Cell.{Cell}
-use Rattle.ir_ast.specs.declared.cells.Cell.TheVariants as cells
 use Rattle.ir_ast.specs.Insts.{Instruction}
 use Rattle.ir_ast.specs.Blocks.{BasicBlock}
 use Rattle.ir_ast.specs.Layouts.{ObjectLayout}
@@ -37,6 +36,7 @@ use Rattle.std.proofs.lemmas.Slice.Eq.{bytes_eq-Decides}
 use Rattle.module_laws.proofs.LawFacts.{or-right}
 use Rattle.ir_lines.proofs.LawNames.{contains_get, contains_map, get_some}
 use Rattle.read_back.specs.Said.{word_of, cell_word, operator_says, instruction_says, block_says, function_says, layout_says, argument_says, declaration_says, declaration_if_called, said_by, unnamed}
+use Rattle.read_back.proofs.Cells.{cells_are}
 use Rattle.read_back.proofs.BackLines.{said}
 use Rattle.read_back.proofs.BackInsts.{split_all}
 use Rattle.read_back.proofs.BackBlocks.{weaker, all_append, lines_all, InBlock, inner}
@@ -149,11 +149,6 @@ no_strategy-clear content lines e line f =
     bodies _ h = refl
 
 -- ---- code 13
-
-cells_are : (cs : List Cell) → list_all is_cell (map cell_word cs) ≡ true
-cells_are [] = refl
-cells_are (cells.I64 ∷ cs) = cells_are cs
-cells_are (cells.Ptr ∷ cs) = cells_are cs
 
 layout_right : (cs : List Cell) → 0 < length cs → not (are_cells (map cell_word cs)) ≡ false
 layout_right [] some = absurd (omega arith)

@@ -5,7 +5,6 @@ use Rattle.std.specs.List.{AllByRecursion, AllZip}
 use Rattle.std.proofs.lemmas.List.{append-nil, map-append}
 use Rattle.std.proofs.lemmas.List.Sums.{take_while-cons}
 use Rattle.ir_ast.specs.declared.cells.Cell.{Cell}
-use Rattle.ir_ast.specs.declared.cells.Cell.TheVariants as cells
 use Rattle.ir_ast.specs.Blocks.{BasicBlock}
 use Rattle.ir_ast.specs.Layouts.{ObjectLayout}
 use Rattle.ir_ast.specs.Funcs.{Function}
@@ -19,7 +18,8 @@ use Rattle.line_parts.specs.Lists.{Named}
 use Rattle.ir_lines.specs.Statements.{Line, Statement, layout, declare, define, close}
 use Rattle.ir_lines.specs.Sections.{LayoutLine, Definition, layout_said, layouts_of, is_close, definition_said, definitions_of}
 use Rattle.ir_lines.specs.Modules.{cell_of, layout_of}
-use Rattle.read_back.specs.Said.{word_of, argument_says, instruction_says, block_says, function_says, layout_says, cell_word, declaration_says, declaration_if_called, said_by}
+use Rattle.read_back.specs.Said.{word_of, argument_says, instruction_says, block_says, function_says, layout_says, declaration_says, declaration_if_called, said_by}
+use Rattle.read_back.proofs.Cells.{cells-back}
 use Rattle.read_back.proofs.BackLines.{said, cons_parts}
 use Rattle.read_back.proofs.BackBlocks.{cut, nothing_said, weaker, all_append, all_flat, InBlock, insts_inner, lines_all, flat-append}
 
@@ -212,11 +212,6 @@ layouts_seen (l ∷ ls) =
     map-append layout_of (layout_said l.number l.says) (layouts_of ls)
     ∙ ap (λ (xs : List ObjectLayout). xs ++ map layout_of (layouts_of ls)) (one_layout l.number l.says)
     ∙ ap (λ (xs : List ObjectLayout). layout_seen l.says ++ xs) (layouts_seen ls)
-
-cells-back : (cs : List Cell) → map cell_of (map cell_word cs) ≡ cs
-cells-back [] = refl
-cells-back (cells.I64 ∷ cs) = ap (λ (xs : List Cell). cells.I64 ∷ xs) (cells-back cs)
-cells-back (cells.Ptr ∷ cs) = ap (λ (xs : List Cell). cells.Ptr ∷ xs) (cells-back cs)
 
 said_layouts : (layouts : List ObjectLayout) → flat_map layout_seen (map layout_says layouts) ≡ layouts
 said_layouts [] = refl

@@ -1,5 +1,6 @@
 pub mod Steps
 pub mod Spellings
+pub mod Cells
 pub mod PartSteps
 pub mod Forms
 pub mod Listed

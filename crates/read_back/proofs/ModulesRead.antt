@@ -1,17 +1,15 @@
 -- The text of a module is read: its layouts, its declarations and its functions.
-use Rattle.std.proofs.Common.{◌≡◌, refl, ap, sym, ◌∙◌, subst, ℕ, suc, ◌+◌, ◌≤◌, Bool, true, false, if◌then◌else◌, List, [], ◌∷◌, ◌++◌, length, map, Some, None, Ok, arith, codes, decimal, append_assoc, append-nil, length-append}
+use Rattle.std.proofs.Common.{◌≡◌, refl, ap, sym, ◌∙◌, subst, ℕ, suc, ◌+◌, ◌≤◌, Bool, true, false, if◌then◌else◌, List, [], ◌∷◌, ◌++◌, length, get_or, map, Some, None, Ok, arith, codes, decimal, append_assoc, append-nil, length-append}
 use Rattle.std.specs.Prelude.{flat_map}
 use Rattle.std.specs.List.{All, AllByRecursion, list_all}
 use Rattle.std.specs.Str.Lines.{lines}
 use Rattle.std.proofs.lemmas.Bool.{le-leb}
-use Rattle.std.proofs.lemmas.Fmt.{decimal_digit, decimal_step}
+use Rattle.std.proofs.lemmas.Fmt.{decimal_digit}
 use Rattle.std.proofs.lemmas.List.{length-map}
 use Rattle.std.proofs.lemmas.List.Elements.{All-from_recursion, All-contains}
 use Rattle.sp_text.specs.Tokens.{tokens, is_name}
 use Rattle.sp_text.specs.Labels.{is_metadata}
 use Rattle.sp_text.specs.Lines.{numbered, lines_of}
-use Rattle.ir_ast.specs.declared.cells.Cell.{Cell}
-use Rattle.ir_ast.specs.declared.cells.Cell.TheVariants as cells
 use Rattle.ir_ast.specs.Cells.{word_of}
 use Rattle.ir_ast.specs.Insts.{Instruction}
 use Rattle.ir_ast.specs.Layouts.{ObjectLayout}
@@ -37,10 +35,10 @@ use Rattle.ir_ast.specs.declared.modules.Form.{Form as TextForm}
 use Rattle.ir_ast.specs.declared.modules.Form.TheVariants as text_forms
 use Rattle.ir_reader.specs.declared.states.Counts.{Counts}
 use Rattle.ir_reader.specs.declared.states.State.{State}
-use Rattle.ir_reader.specs.Limits.{item_fits, type_fits, counted, counted_in, counts_fit}
+use Rattle.ir_reader.specs.Limits.{item_fits, counted, counted_in, counts_fit}
 use Rattle.line_parts.specs.Lists.{Named, comma, argument_at, is_task_start}
 use Rattle.line_tokens.specs.Marks.{is_mark, begins}
-use Rattle.line_parts.specs.Parts.{is_value_type, is_answer_type}
+use Rattle.line_parts.specs.Parts.{is_answer_type}
 use Rattle.ir_reader.specs.Places.{behind}
 use Rattle.line_forms.specs.Forms.{is_dropped_form}
 use Rattle.line_forms.specs.Seen.{of_form}
@@ -50,6 +48,7 @@ use Rattle.ir_lines.specs.Statements.{Line, Statement, stated}
 use Rattle.ir_lines.specs.Statements as statements
 use Rattle.read_back.specs.Said.{cell_word, layout_says, unnamed, declaration_says, declaration_if_called, function_says, said_by}
 use Rattle.read_back.proofs.BackFaults.{IsBelow, externals_below}
+use Rattle.read_back.proofs.Cells.{cell_reads, cells_fit, wide_type}
 use Rattle.read_back.proofs.Spellings.{SpellsType, integer_type, pointer_type, void_type}
 use Rattle.read_back.proofs.Forms.{ReadsAs}
 use Rattle.read_back.proofs.Listed.{SpellsElement}
@@ -85,25 +84,6 @@ still_by text_forms.Rewritten c none = ap (λ (r : ℕ). record c { relocates = 
 
 -- ---- layouts
 
-sixty_four : decimal 64 ≡ codes "64"
-sixty_four = decimal_step 64 (omega arith) (omega arith) ∙ ap (λ ds. ds ++ (52 ∷ [])) (decimal_digit 6 (omega arith))
-
-wide_type : SpellsType (codes "i64") (types.Int 64)
-wide_type = subst (λ (ds : List ℕ). SpellsType (105 ∷ ds) (types.Int 64)) sixty_four (integer_type 64 (omega arith))
-
-cell_spelled : (cell : Cell) → SpellsType (word_of cell) (cell_word cell)
-cell_spelled cells.I64 = wide_type
-cell_spelled cells.Ptr = pointer_type
-
-cell_value : (cell : Cell) → is_value_type (cell_word cell) ≡ true
-cell_value cells.I64 = refl
-cell_value cells.Ptr = refl
-
-cells_fit : (cs : List Cell) → list_all type_fits (map cell_word cs) ≡ true
-cells_fit [] = refl
-cells_fit (cells.I64 ∷ cs) = cells_fit cs
-cells_fit (cells.Ptr ∷ cs) = cells_fit cs
-
 -- what is asked of a layout
 record LayoutReads (layout : ObjectLayout) : Type 0 where
   pub named : is_name layout.name ≡ true
@@ -122,7 +102,8 @@ layout_read of layout c is room =
     let text : List ℕ = 37 ∷ (layout.name ++ (codes " = type { " ++ (joined (codes ", ") (map word_of layout.fields) ++ codes " }"))) in
     let items : List parts.Item = parts.layout_name layout.name ∷ parts.fields (map cell_word layout.fields) ∷ [] in
     let reads : ReadsAs text forms.Layout items = layout_line layout.name is.named word_of cell_word layout.fields
-    (λ k d low. field_element (cell_spelled _) (cell_value _)) (λ k d low rest ends. type_opens (cell_spelled _) (codes "}") rest ends) in
+    (λ k d low. let one = cell_reads (get_or layout.fields k d) in field_element one.spelled one.is_value)
+    (λ k d low rest ends. type_opens (cell_reads (get_or layout.fields k d)).spelled (codes "}") rest ends) in
     let count : length (map cell_word layout.fields) ≡ length layout.fields = length-map layout.fields cell_word in
     let fits : list_all item_fits items ≡ true = rw (le-leb (length layout.name) 4096 is.short, count, le-leb (length layout.fields) 64 is.few, cells_fit layout.fields) refl in
     rw (layout_bytes layout.name (joined (codes ", ") (map word_of layout.fields))) (top_line of c text forms.Layout items (in_both of refl reads) refl refl refl fits room)

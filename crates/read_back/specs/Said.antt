@@ -6,7 +6,7 @@ use Rattle.sp_ids.specs.Numbers.{wrapped, signed}
 use Rattle.ir_ast.specs.declared.types.Ty.{Ty}
 use Rattle.ir_ast.specs.declared.types.Ty.TheVariants as tys
 use Rattle.ir_ast.specs.declared.cells.Cell.{Cell}
-use Rattle.ir_ast.specs.declared.cells.Cell.TheVariants as cells
+use Rattle.ir_ast.specs.Cells.{type_of}
 use Rattle.ir_ast.specs.declared.funcs.Arg.{Arg}
 use Rattle.ir_ast.specs.declared.ops.Callee.{Callee}
 use Rattle.ir_ast.specs.declared.ops.Pred.{Pred}
@@ -54,8 +54,7 @@ width_in (tys.Int width) = width
 width_in _ = 0
 
 abbrev pub cell_word : Cell → TypeWord
-cell_word cells.I64 = types.Int 64
-cell_word cells.Ptr = types.Managed
+cell_word cell = word_of (type_of cell)
 
 -- ---- values
 
