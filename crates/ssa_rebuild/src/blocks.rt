@@ -1,13 +1,16 @@
 //! The blocks of the final text.
 
-ghost use Rattle.std.specs.Prelude.{◌≡◌, ◌<◌, ◌^◌, map, length, IfOk};
+ghost use Rattle.std.specs.Prelude.{◌≡◌, ◌<◌, ◌^◌, ◌++◌, [], true, false, map, length, IfOk};
+ghost use Rattle.std.specs.List.{list_any};
+ghost use Rattle.rewriting_forms.specs.Numbered.{is_call};
 ghost use Rattle.version_walk.specs.Forest.{list_at};
-ghost use Rattle.ssa_rebuild.specs.Written.{blocks_written, block_lines, block_after};
+ghost use Rattle.ssa_rebuild.specs.Written.{blocks_written, block_lines, block_after, phi_lines, phis_behind, written, behind};
 
 use crate::rooms::text_room;
 use crate::stream::Stream;
-use crate::writing::{Writing, push_lines, push_phis};
-use ir_ast::Block;
+use crate::lines::is_call;
+use crate::writing::{Writing, fill_lines, push_lines, push_phis};
+use ir_ast::{Block, Inst};
 use ir_cfg::Cfg;
 use sp_ids::{BlockId, Memory, ValueId};
 use statepoint_insert::Group;
@@ -56,19 +59,54 @@ fn one_block<'a>(
     ensures writing { IfOk result (λ _. writing.new ≡ block_after cfg.now groups.now joins.now rows.now number writing.old block.insts) }
 {
     let (name, insts) = block.into_parts();
-    let joined = join_at(joins, number as usize);
-    let room = text_room(insts.as_slice(), groups, writing.counts.tokens as usize);
-    let mut lines = Vec::with_capacity(alloc, room.saturating_add(joined.len()))?;
     writing.body = Stream::of(row_at(rows, number as usize));
-    push_phis(
+    let lines = all_lines(
         alloc,
         cfg.preds(BlockId(number)),
-        joined,
+        groups,
+        join_at(joins, number as usize),
+        insts,
         writing,
-        &mut lines,
     )?;
-    push_lines(alloc, groups, insts, writing, &mut lines)?;
     Ok(Block::of(name, lines))
+}
+
+// The lines of a block, those of its inserted phis first. Where nothing is put in, the lines stay where they stand.
+fn all_lines(
+    alloc: Global,
+    preds: &[BlockId],
+    groups: &[Group],
+    joined: &[ValueId],
+    insts: Vec<Inst>,
+    writing: &mut Writing<'_>,
+) -> Result<Vec<Inst>, Memory>
+    ensures lines { IfOk result (λ lines. lines.items ≡ phi_lines preds.now writing.old joined.now ++ written groups.now (phis_behind preds.now writing.old joined.now) insts.items) }
+    ensures writing { IfOk result (λ _. writing.new ≡ behind groups.now (phis_behind preds.now writing.old joined.now) insts.items) }
+{
+    if are_kept(joined, insts.as_slice()) {
+        let mut lines = insts;
+        fill_lines(alloc, lines.as_mut_slice(), writing);
+        return Ok(lines);
+    }
+    let room = text_room(insts.as_slice(), groups, writing.counts.tokens as usize);
+    let mut lines = Vec::with_capacity(alloc, room.saturating_add(joined.len()))?;
+    push_phis(alloc, preds, joined, writing, &mut lines)?;
+    push_lines(alloc, groups, insts, writing, &mut lines)?;
+    Ok(lines)
+}
+
+// Whether no line is put in.
+fn are_kept(joined: &[ValueId], insts: &[Inst]) -> bool
+    ensures joined { result ≡ true → joined.now ≡ [] }
+    ensures calls { result ≡ true → list_any (λ inst. is_call inst.op) insts.now ≡ false }
+{
+    joined.is_empty() && !has_call(insts)
+}
+
+fn has_call(insts: &[Inst]) -> bool
+    ensures { result ≡ list_any (λ inst. is_call inst.op) insts.now }
+{
+    insts.iter().any(|inst| is_call(inst.op()))
 }
 
 fn row_at(rows: &[Vec<Packed>], number: usize) -> &[Packed]

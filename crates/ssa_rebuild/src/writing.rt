@@ -1,10 +1,13 @@
 //! The lines of the final text.
 
-ghost use Rattle.std.specs.Prelude.{◌≡◌, true, ◌++◌, [], ◌∷◌, ◌+◌, ◌-◌, ◌<◌, ◌^◌, if◌then◌else◌, length, take, decimal, IfOk};
+ghost use Rattle.std.specs.Prelude.{◌≡◌, List, true, false, ◌≤◌, ◌++◌, [], ◌∷◌, ◌+◌, ◌-◌, ◌<◌, ◌^◌, if◌then◌else◌, length, take, drop, decimal, IfOk};
 ghost use Rattle.ir_ast.specs.declared.ops.Op.{Op};
+ghost use Rattle.std.specs.List.{list_any};
+ghost use Rattle.ir_ast.specs.Faults.PhiEdges.{is_phi};
+ghost use Rattle.statepoint_insert.specs.Groups.{GroupContent};
 ghost use Rattle.rewriting_forms.specs.Numbered.{is_call};
 ghost use Rattle.ssa_rebuild.specs.Rows.{own_uses};
-ghost use Rattle.ssa_rebuild.specs.Written.{filled, left, results_in, phi_uses, entries_left, operands_written, plain_written, plain_left, call_written, call_left, group_at, counts_with, line_written, after, written, behind, phi_line, phi_after, phi_lines, phis_behind};
+ghost use Rattle.ssa_rebuild.specs.Written.{filled, left, results_in, phi_uses, entries_left, operands_written, plain_written, plain_left, call_written, call_left, group_at, counts_with, line_written, after, kept_after, with_filled, written, behind, phi_line, phi_after, phi_lines, phis_behind};
 
 use crate::filled::{fill, fill_bundle, values};
 use crate::lines::{is_call, is_phi};
@@ -14,6 +17,7 @@ use itoa::Buffer;
 use sp_ids::{BlockId, Memory, ValueId};
 use statepoint_insert::{Call, Counts, Group, push_group};
 use std::alloc::Global;
+use std::mem;
 
 /// What is still to be written: the counts of names, the numbers of the block's slots, and those of all entries of phis.
 #[derive(Drop)]
@@ -110,8 +114,92 @@ fn push_line(
     if is_call(inst.op()) {
         return push_call(alloc, groups, inst, writing, lines);
     }
-    lines.push(plain(inst, &mut writing.body, &mut writing.entries))?;
+    let mut line = inst;
+    fill_line(alloc, &mut line, writing);
+    lines.push(line)?;
     Ok(())
+}
+
+/// Gives lines without calls their numbers, where they stand.
+pub(crate) fn fill_lines(alloc: Global, lines: &mut [Inst], writing: &mut Writing<'_>)
+    requires { list_any (λ inst. is_call inst.op) lines.old ≡ false }
+    ensures lines { (groups : List GroupContent) → lines.new ≡ written groups writing.old lines.old }
+    ensures writing { (groups : List GroupContent) → writing.new ≡ behind groups writing.old lines.old }
+{
+    for inst in lines.iter_mut() {
+        fill_line(alloc, inst, writing);
+    }
+}
+
+// Gives a line that is kept its numbers, where it stands.
+fn fill_line(alloc: Global, inst: &mut Inst, writing: &mut Writing<'_>)
+    ensures line { inst.new ≡ plain_written writing.old.body writing.old.entries inst.old }
+    ensures writing { writing.new ≡ kept_after writing.old inst.old }
+{
+    if stands(inst) {
+        fill_standing(inst, writing);
+    } else {
+        let old = mem::replace(inst, no_line(alloc));
+        *inst = plain(old, &mut writing.body, &mut writing.entries);
+    }
+}
+
+// Whether only the operands of a line change, and each of them has a number or stays.
+fn stands(inst: &Inst) -> bool
+    ensures bundle { result ≡ true → inst.now.bundle ≡ [] }
+    ensures labels { result ≡ true → is_phi inst.now.op ≡ true → length inst.now.operands ≤ length inst.now.labels }
+{
+    inst.bundle().is_empty()
+        && (!is_phi(inst.op()) || inst.operands().len() <= inst.labels().len())
+}
+
+fn fill_standing(inst: &mut Inst, writing: &mut Writing<'_>)
+    requires bundle { inst.old.bundle ≡ [] }
+    requires labels { is_phi inst.old.op ≡ true → length inst.old.operands ≤ length inst.old.labels }
+    ensures line { inst.new ≡ plain_written writing.old.body writing.old.entries inst.old }
+    ensures writing { writing.new ≡ kept_after writing.old inst.old }
+{
+    if is_phi(inst.op()) {
+        fill_phi(inst, writing);
+    } else {
+        fill_body(inst, writing);
+    }
+}
+
+fn fill_phi(inst: &mut Inst, writing: &mut Writing<'_>)
+    ensures line { inst.new ≡ with_filled writing.old.entries inst.old }
+    ensures writing { writing.new ≡ record writing.old { body = drop (results_in inst.old.result) writing.old.body; entries = left writing.old.entries inst.old.operands } }
+{
+    let results = results_in(inst.result());
+    fill_operands(inst, &mut writing.entries);
+    writing.body.skip(results);
+}
+
+fn fill_body(inst: &mut Inst, writing: &mut Writing<'_>)
+    ensures line { inst.new ≡ with_filled writing.old.body inst.old }
+    ensures writing { writing.new ≡ record writing.old { body = drop (results_in inst.old.result) (left writing.old.body inst.old.operands) } }
+{
+    let results = results_in(inst.result());
+    fill_operands(inst, &mut writing.body);
+    writing.body.skip(results);
+}
+
+fn fill_operands(inst: &mut Inst, numbers: &mut Stream<'_>)
+    ensures line { inst.new ≡ with_filled numbers.old inst.old }
+    ensures rest { numbers.new ≡ left numbers.old inst.old.operands }
+{
+    fill(inst.operands_mut(), numbers);
+}
+
+fn no_line(alloc: Global) -> Inst {
+    Inst::of(
+        None,
+        Op::Unreachable,
+        Ty::Void,
+        SmallVec::new(alloc),
+        SmallVec::new(alloc),
+        Vec::new(alloc),
+    )
 }
 
 fn plain(inst: Inst, body: &mut Stream<'_>, entries: &mut Stream<'_>) -> Inst

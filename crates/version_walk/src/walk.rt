@@ -55,7 +55,7 @@ pub fn answer_blocks(
     Ok(walk.rows)
 }
 
-// Room for the changes of all definitions.
+// Room for the changes of all further definitions.
 fn room_for(rows: &[Vec<Packed>]) -> usize {
     let mut room = 0_usize;
     for row in rows {
@@ -75,7 +75,7 @@ fn changes_in(row: &[Packed]) -> usize {
 }
 
 fn is_change(slot: Slot) -> bool {
-    matches!(slot, Slot::Own(_) | Slot::Give(_))
+    matches!(slot, Slot::Give(_))
 }
 
 fn no_marks(alloc: Global, count: usize) -> Result<Vec<bool>, Memory>
