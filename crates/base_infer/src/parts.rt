@@ -55,7 +55,7 @@ pub(crate) fn base_line(
 {
     let named = name(alloc, b"sp.b", tables.base_rank(next))?;
     let operands = bases(alloc, tables, is_select, inst.operands())?;
-    let labels = Vec::from_slice(alloc, inst.labels())?;
+    let labels = SmallVec::from_slice(alloc, inst.labels())?;
     Ok(Inst::of(
         Some(named),
         merge_op(is_select),
@@ -145,7 +145,7 @@ pub(crate) fn check_line(
         op,
         Ty::Void,
         operands,
-        Vec::new(alloc),
+        SmallVec::new(alloc),
         Vec::new(alloc),
     ))
 }
@@ -194,7 +194,7 @@ pub(crate) fn same_line(
         op,
         Ty::Int(1),
         operands,
-        Vec::new(alloc),
+        SmallVec::new(alloc),
         Vec::new(alloc),
     ))
 }
@@ -227,7 +227,7 @@ pub(crate) fn negation(
         Op::Xor,
         Ty::Int(1),
         operands,
-        Vec::new(alloc),
+        SmallVec::new(alloc),
         Vec::new(alloc),
     ))
 }
@@ -237,7 +237,7 @@ pub(crate) fn name(alloc: Global, front: &[u8], rank: u32) -> Result<Name, Memor
     ensures { IfOk result (λ name. name ≡ numbered_name front.now rank) }
 {
     let mut buffer = Buffer::new();
-    let mut bytes = Vec::with_capacity(alloc, 16)?;
+    let mut bytes = SmallVec::new(alloc);
     bytes.extend_from_slice(front)?;
     bytes.extend_from_slice(buffer.format(rank).as_bytes())?;
     Ok(Name::of(bytes))

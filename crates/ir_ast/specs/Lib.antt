@@ -3,6 +3,7 @@ pub mod Layouts
 pub mod Sizes
 pub mod Ops
 pub mod Insts
+pub mod Lends
 pub mod Blocks
 pub mod Funcs
 pub mod Modules

@@ -1,8 +1,10 @@
 ghost use Rattle.std.specs.Prelude.{◌≡◌};
+ghost use Rattle.std.specs.Borrow.{sem};
+ghost use Rattle.ir_ast.specs.Lends.{lends_operands};
 
 use crate::clones::TryClone;
 use crate::names::Name;
-use crate::ops::{Op, Operand, Operands};
+use crate::ops::{Labels, Op, Operand, Operands};
 use crate::types::Ty;
 use smallvec::SmallVec;
 use sp_ids::{BlockId, Memory};
@@ -22,7 +24,7 @@ pub struct Inst {
     op: Op,
     ty: Ty,
     operands: Operands,
-    labels: Vec<BlockId>,
+    labels: Labels,
     bundle: Vec<(Ty, Operand)>,
 }
 
@@ -48,7 +50,7 @@ impl Inst {
         op: Op,
         ty: Ty,
         operands: Operands,
-        labels: Vec<BlockId>,
+        labels: Labels,
         bundle: Vec<(Ty, Operand)>,
     ) -> Inst
         ensures { result ≡ record {
@@ -71,16 +73,7 @@ impl Inst {
     }
 
     /// Gives its parts back.
-    pub fn into_parts(
-        self,
-    ) -> (
-        Option<Name>,
-        Op,
-        Ty,
-        Operands,
-        Vec<BlockId>,
-        Vec<(Ty, Operand)>,
-    )
+    pub fn into_parts(self) -> (Option<Name>, Op, Ty, Operands, Labels, Vec<(Ty, Operand)>)
         ensures named { result.0 ≡ self.result }
         ensures op { result.1 ≡ self.op }
         ensures ty { result.2 ≡ self.ty }
@@ -126,6 +119,14 @@ impl Inst {
         self.operands.as_slice()
     }
 
+    /// Its operands, for writing.
+    pub fn operands_mut(&mut self) -> &mut [Operand]
+        ensures* writes_back { sem 𝓛 (lends_operands self.entry result) }
+        ensures value { result.now ≡ self.old.operands }
+    {
+        self.operands.as_mut_slice()
+    }
+
     /// Its labels, in the order of its line.
     pub fn labels(&self) -> &[BlockId]
         ensures { result.now ≡ self.now.labels }
@@ -148,7 +149,7 @@ impl TryClone for Inst {
             op: self.op.try_clone_in(alloc)?,
             ty: self.ty,
             operands: SmallVec::from_slice(alloc, self.operands.as_slice())?,
-            labels: Vec::from_slice(alloc, self.labels.as_slice())?,
+            labels: SmallVec::from_slice(alloc, self.labels.as_slice())?,
             bundle: Vec::from_slice(alloc, self.bundle.as_slice())?,
         })
     }

@@ -1,15 +1,19 @@
 ghost use Rattle.std.specs.Prelude.{◌≡◌};
 
 use crate::clones::TryClone;
+use smallvec::SmallVec;
 use sp_ids::Memory;
 use std::alloc::Global;
 use std::marker::Model;
+
+/// The bytes of a name. Those of most names take no memory of their own.
+pub type NameBytes = SmallVec<u8, 15>;
 
 /// A name without its `%` or `@` (LLVM Language Reference, "Identifiers"). Contracts see the list of
 /// its bytes.
 #[derive(Debug, Drop)]
 pub struct Name {
-    bytes: Vec<u8>,
+    bytes: NameBytes,
 }
 
 impl Model for Name {
@@ -22,14 +26,14 @@ impl Model for Name {
 
 impl Name {
     /// The name of these bytes.
-    pub fn of(bytes: Vec<u8>) -> Name
+    pub fn of(bytes: NameBytes) -> Name
         ensures { result ≡ bytes.items }
     {
         Name { bytes }
     }
 
     /// Gives its bytes back.
-    pub fn into_parts(self) -> Vec<u8>
+    pub fn into_parts(self) -> NameBytes
         ensures { result.items ≡ self }
     {
         self.bytes
@@ -46,7 +50,7 @@ impl Name {
 impl TryClone for Name {
     fn try_clone_in(&self, alloc: Global) -> Result<Name, Memory> {
         Ok(Name {
-            bytes: Vec::from_slice(alloc, self.bytes.as_slice())?,
+            bytes: SmallVec::from_slice(alloc, self.bytes.as_slice())?,
         })
     }
 }

@@ -4,7 +4,7 @@ ghost use Rattle.ir_ast.specs.Ops.{is_terminator};
 use crate::clones::TryClone;
 use crate::types::Types;
 use smallvec::SmallVec;
-use sp_ids::{FuncId, Memory, ValueId};
+use sp_ids::{BlockId, FuncId, Memory, ValueId};
 use std::alloc::Global;
 
 /// An operand of an instruction.
@@ -21,7 +21,10 @@ pub enum Operand {
 }
 
 /// The operands of an instruction, in the order of its line.
-pub type Operands = SmallVec<Operand, 4>;
+pub type Operands = SmallVec<Operand, 3>;
+
+/// The labels of an instruction, in the order of its line.
+pub type Labels = SmallVec<BlockId, 4>;
 
 /// The predicate of an `icmp` (LLVM Language Reference, "'icmp' Instruction").
 #[derive(Clone, Copy, Debug, PartialEq, Eq)]

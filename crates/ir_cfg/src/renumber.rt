@@ -2,7 +2,7 @@ ghost use Rattle.std.specs.Prelude.{◌≡◌, ◌^◌, ◌<◌, false, length, 
 ghost use Rattle.ir_ast.specs.Blocks.{EndsAtTerminator};
 ghost use Rattle.ir_cfg.specs.Unreached.{kept_of, new_numbers, operand_kept, label_kept, has_mark, operands_kept, labels_kept, inst_kept, block_kept};
 
-use ir_ast::{Block, Inst, Op, Operand, Operands, Ty};
+use ir_ast::{Block, Inst, Labels, Op, Operand, Operands, Ty};
 use smallvec::SmallVec;
 use sp_ids::{BlockId, Memory, ValueId};
 use std::alloc::Global;
@@ -145,14 +145,10 @@ fn operands(
     }
 }
 
-fn phi_labels(
-    alloc: Global,
-    renumber: &Renumber,
-    labels: &[BlockId],
-) -> Result<Vec<BlockId>, Memory>
+fn phi_labels(alloc: Global, renumber: &Renumber, labels: &[BlockId]) -> Result<Labels, Memory>
     ensures { IfOk result (λ kept. kept.items ≡ map (label_kept renumber.now) (filter (has_mark renumber.now) labels.now)) }
 {
-    let mut kept = Vec::new(alloc);
+    let mut kept = SmallVec::new(alloc);
     for label in labels {
         if renumber.has_mark(*label) {
             kept.push(renumber.label(*label))?;
@@ -161,26 +157,17 @@ fn phi_labels(
     Ok(kept)
 }
 
-fn all_labels(
-    alloc: Global,
-    renumber: &Renumber,
-    labels: &[BlockId],
-) -> Result<Vec<BlockId>, Memory>
+fn all_labels(alloc: Global, renumber: &Renumber, labels: &[BlockId]) -> Result<Labels, Memory>
     ensures { IfOk result (λ kept. kept.items ≡ map (label_kept renumber.now) labels.now) }
 {
-    let mut kept = Vec::new(alloc);
+    let mut kept = SmallVec::new(alloc);
     for label in labels {
         kept.push(renumber.label(*label))?;
     }
     Ok(kept)
 }
 
-fn labels(
-    alloc: Global,
-    renumber: &Renumber,
-    op: &Op,
-    labels: &[BlockId],
-) -> Result<Vec<BlockId>, Memory>
+fn labels(alloc: Global, renumber: &Renumber, op: &Op, labels: &[BlockId]) -> Result<Labels, Memory>
     ensures { IfOk result (λ kept. kept.items ≡ labels_kept renumber.now op.now labels.now) }
 {
     match op {

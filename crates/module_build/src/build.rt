@@ -42,7 +42,7 @@ fn layout_made(name: &[u8]) -> &[u8]
 pub fn owned(alloc: Global, name: &[u8]) -> Result<Name, AllocError>
     ensures { IfOk result (λ owned. owned ≡ name.now) }
 {
-    let bytes = Vec::from_slice(alloc, name)?;
+    let bytes = SmallVec::from_slice(alloc, name)?;
     Ok(Name::of(bytes))
 }
 
@@ -88,7 +88,7 @@ fn inst(
 {
     let name = named(alloc, name)?;
     let operands = SmallVec::from_slice(alloc, operands)?;
-    let labels = Vec::from_slice(alloc, labels)?;
+    let labels = SmallVec::from_slice(alloc, labels)?;
     Ok(Some(Inst::of(name, op, ty, operands, labels, Vec::new(alloc))))
 }
 
@@ -305,7 +305,7 @@ fn phi(
         (after_uses local.now.values lost.old (map (entry_use ty) (map seen_entry entries.now)))) }
 {
     let mut operands: Operands = SmallVec::new(alloc);
-    let mut labels = Vec::new(alloc);
+    let mut labels = SmallVec::new(alloc);
     let mut lost_labels = nothing_lost();
     for entry in entries {
         operands.push(operand(local, ty, &entry.value, lost))?;
@@ -428,7 +428,7 @@ fn switch(
 {
     let ty = TypeWord::Int(width);
     let mut operands: Operands = SmallVec::new(alloc);
-    let mut labels = Vec::new(alloc);
+    let mut labels = SmallVec::new(alloc);
     operands.push(operand(local, ty, value, lost))?;
     labels.push(label(local, default, lost))?;
     for line in behind {
@@ -524,7 +524,7 @@ impl Scope<'_, '_, '_, '_> {
             types: types_of(alloc, passed)?,
         };
         let name = named(alloc, name)?;
-        let labels = Vec::new(alloc);
+        let labels = SmallVec::new(alloc);
         let none = Vec::new(alloc);
         Ok(Some(Inst::of(name, op, type_of(answer), operands, labels, none)))
     }
@@ -639,7 +639,7 @@ impl Scope<'_, '_, '_, '_> {
         };
         let ty = type_of(call.function_type.answer);
         let name = owned(alloc, name)?;
-        let labels = Vec::new(alloc);
+        let labels = SmallVec::new(alloc);
         let none = Vec::new(alloc);
         Ok(Some(Inst::of(Some(name), op, ty, operands, labels, none)))
     }

@@ -4,6 +4,7 @@ ghost use Rattle.generated_forms.specs.Modules.{node, generated};
 
 use crate::funcs::{functions, main_function};
 use ir_ast::{Cell, Form, Layout, Module, Name};
+use smallvec::SmallVec;
 use sp_ids::Memory;
 use std::alloc::Global;
 
@@ -27,7 +28,7 @@ fn node(alloc: Global) -> Result<Layout, Memory>
     ensures { IfOk result (λ layout. layout ≡ node) }
 {
     Ok(Layout::of(
-        Name::of(Vec::from_slice(alloc, b"N")?),
+        Name::of(SmallVec::from_slice(alloc, b"N")?),
         Vec::from_slice(alloc, &[Cell::I64, Cell::Ptr])?,
     ))
 }

@@ -8,6 +8,7 @@ ghost use Rattle.generated_forms.specs.Bodies.{shape_of, bound_of, body};
 
 use crate::lines::{Line, write_all};
 use ir_ast::{Block, Name, Operand, Ty};
+use smallvec::SmallVec;
 use sp_ids::{BlockId, FuncId, Memory, ValueId};
 use std::alloc::Global;
 
@@ -303,6 +304,6 @@ fn block(alloc: Global, name: &[u8], lines: &[Line<'_>]) -> Result<Block, Memory
     requires { EndsAtTerminator (map written lines.now) }
     ensures { IfOk result (λ made. made ≡ record { name = name.now; insts = map written lines.now }) }
 {
-    let named = Name::of(Vec::from_slice(alloc, name)?);
+    let named = Name::of(SmallVec::from_slice(alloc, name)?);
     Ok(Block::of(named, write_all(alloc, lines)?))
 }

@@ -86,7 +86,7 @@ fn poll(alloc: Global) -> Inst
         op,
         Ty::Void,
         SmallVec::new(alloc),
-        Vec::new(alloc),
+        SmallVec::new(alloc),
         Vec::new(alloc),
     )
 }

@@ -3,7 +3,7 @@
 pub struct FuncId(pub u32);
 
 /// A block of a function, by its place in the function's list of blocks.
-#[derive(Clone, Copy, Debug, PartialEq, Eq, PartialOrd, Ord, Hash)]
+#[derive(Clone, Copy, Debug, Default, PartialEq, Eq, PartialOrd, Ord, Hash)]
 pub struct BlockId(pub u32);
 
 /// A value of a function: the arguments come first, then the results of instructions in text order.

@@ -14,6 +14,7 @@ use crate::lines::{is_call, is_phi};
 use crate::stream::Stream;
 use ir_ast::{Callee, Inst, Name, Op, Operand, Operands, Ty, Types};
 use itoa::Buffer;
+use smallvec::SmallVec;
 use sp_ids::{BlockId, Memory, ValueId};
 use statepoint_insert::{Call, Counts, Group, push_group};
 use std::alloc::Global;
@@ -60,7 +61,7 @@ fn push_phi(
     let numbers = writing.entries.next_ones(alloc, preds.len())?;
     let operands = values(alloc, numbers.as_slice())?;
     let named = name(alloc, b"sp.m", writing.joined)?;
-    let labels = Vec::from_slice(alloc, preds)?;
+    let labels = SmallVec::from_slice(alloc, preds)?;
     lines.push(Inst::of(
         Some(named),
         Op::Phi,
@@ -78,7 +79,7 @@ fn name(alloc: Global, front: &[u8], number: u32) -> Result<Name, Memory>
     ensures { IfOk result (λ name. name ≡ front.now ++ decimal number) }
 {
     let mut buffer = Buffer::new();
-    let mut bytes = Vec::with_capacity(alloc, 16)?;
+    let mut bytes = SmallVec::new(alloc);
     bytes.extend_from_slice(front)?;
     bytes.extend_from_slice(buffer.format(number).as_bytes())?;
     Ok(Name::of(bytes))

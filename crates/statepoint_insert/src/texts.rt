@@ -51,7 +51,7 @@ pub(crate) fn statepoint(
         callee,
         types,
     };
-    Ok(Inst::of(Some(named), op, ty, entries, Vec::new(alloc), bundle))
+    Ok(Inst::of(Some(named), op, ty, entries, SmallVec::new(alloc), bundle))
 }
 
 fn with_entries(operands: Operands, has_null: bool, live: &[u32]) -> Result<Operands, Memory>
@@ -92,7 +92,7 @@ pub(crate) fn push_result(
             Op::GcResult,
             ty,
             operands,
-            Vec::new(alloc),
+            SmallVec::new(alloc),
             Vec::new(alloc),
         ))?;
     }
@@ -138,7 +138,7 @@ fn relocate_line(
         Op::GcRelocate,
         Ty::Ptr,
         operands,
-        Vec::new(alloc),
+        SmallVec::new(alloc),
         Vec::new(alloc),
     ))
 }
@@ -148,7 +148,7 @@ fn name(alloc: Global, front: &[u8], number: u32) -> Result<Name, Memory>
     ensures { IfOk result (λ name. name ≡ front.now ++ decimal number) }
 {
     let mut buffer = Buffer::new();
-    let mut bytes = Vec::with_capacity(alloc, 16)?;
+    let mut bytes = SmallVec::new(alloc);
     bytes.extend_from_slice(front)?;
     bytes.extend_from_slice(buffer.format(number).as_bytes())?;
     Ok(Name::of(bytes))

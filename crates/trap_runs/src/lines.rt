@@ -29,12 +29,12 @@ pub(crate) fn inst_of(alloc: Global, line: &str) -> Result<Inst> {
     };
     let op = op_of(operator, Types::of(types))?;
     let bundle = entries(alloc, bundle)?;
-    Ok(Inst::of(named, op, ty, operands, Vec::new(alloc), bundle))
+    Ok(Inst::of(named, op, ty, operands, SmallVec::new(alloc), bundle))
 }
 
 /// A name.
 pub(crate) fn name_of(alloc: Global, spelled: &str) -> Result<Name> {
-    Ok(Name::of(Vec::from_slice(alloc, spelled.as_bytes())?))
+    Ok(Name::of(SmallVec::from_slice(alloc, spelled.as_bytes())?))
 }
 
 fn op_of(word: &str, types: Types) -> Result<Op> {
