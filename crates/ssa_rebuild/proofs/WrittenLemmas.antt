@@ -71,13 +71,17 @@ kept_more groups writing later all insts i inst new stands kept new_is later_is 
     ∙ sym (ap (λ (ls : List Instruction). ls ++ written groups later (drop (i + 1) insts)) front)
     ∙ sym (ap (λ (ls : List Instruction). take (i + 1) (set insts i new) ++ written groups later ls) back)
 
+after_kept : (groups : List GroupContent) (writing : Writing) (inst : Instruction) → is_call inst.op ≡ false → after groups writing inst ≡ kept_after writing inst
+after_kept groups writing inst kept = rw kept refl
+
 pub behind_more : (groups : List GroupContent) (writing later all : Writing) (insts : List Instruction) (i : ℕ) (inst new : Instruction)
     → slice_get insts i ≡ Some inst → is_call inst.op ≡ false → later ≡ kept_after writing inst
     → all ≡ behind groups writing (drop i insts)
     → all ≡ behind groups later (drop (i + 1) (set insts i new))
 behind_more groups writing later all insts i inst new stands kept later_is is =
     let here : behind groups writing (drop i insts) ≡ behind groups later (drop (i + 1) insts) =
-    ap (behind groups writing) (drop_at insts i inst stands) ∙ rw (kept, later_is) refl in
+    ap (behind groups writing) (drop_at insts i inst stands)
+    ∙ ap (λ (w : Writing). behind groups w (drop (i + 1) insts)) (after_kept groups writing inst kept ∙ sym later_is) in
     is ∙ here ∙ sym (ap (behind groups later) (drop-set-lt (i + 1) insts i new (omega arith)))
 
 -- without calls the next line is no call, and so are those behind it

@@ -1,14 +1,15 @@
 //! The blocks of the final text.
 
-ghost use Rattle.std.specs.Prelude.{◌≡◌, ◌<◌, ◌^◌, ◌++◌, [], true, false, map, length, IfOk};
+ghost use Rattle.std.specs.Prelude.{◌≡◌, ◌<◌, ◌^◌, ◌++◌, [], true, false, map, length, List, IfOk};
+ghost use Rattle.statepoint_insert.specs.Groups.{GroupContent};
 ghost use Rattle.std.specs.List.{list_any};
 ghost use Rattle.rewriting_forms.specs.Numbered.{is_call};
 ghost use Rattle.version_walk.specs.Forest.{list_at};
 ghost use Rattle.ssa_rebuild.specs.Written.{blocks_written, block_lines, block_after, phi_lines, phis_behind, written, behind};
 
+use crate::lines::is_call;
 use crate::rooms::text_room;
 use crate::stream::Stream;
-use crate::lines::is_call;
 use crate::writing::{Writing, fill_lines, push_lines, push_phis};
 use ir_ast::{Block, Inst};
 use ir_cfg::Cfg;
@@ -32,13 +33,24 @@ pub(crate) fn all_blocks<'a>(
     ensures { IfOk result (λ after. after.items ≡ blocks_written cfg.now groups.now joins.now rows.now 0 writing.entry blocks.items) }
 {
     let mut now = writing;
+    let mut numbers = Vec::new(alloc);
     let mut after = Vec::with_capacity(alloc, blocks.len())?;
     let mut number = 0;
     for block in blocks {
         if number as usize >= joins.len() {
             return Err(Memory);
         }
-        after.push(one_block(alloc, cfg, groups, joins, rows, number, block, &mut now)?)?;
+        after.push(one_block(
+            alloc,
+            cfg,
+            groups,
+            joins,
+            rows,
+            number,
+            block,
+            &mut now,
+            &mut numbers,
+        )?)?;
         number += 1;
     }
     Ok(after)
@@ -53,6 +65,7 @@ fn one_block<'a>(
     number: u32,
     block: Block,
     writing: &mut Writing<'a>,
+    numbers: &mut Vec<u32>,
 ) -> Result<Block, Memory>
     requires { number < length cfg.now }
     ensures block { IfOk result (λ after. after ≡ record { name = block.name; insts = block_lines cfg.now groups.now joins.now rows.now number writing.old block.insts }) }
@@ -67,6 +80,7 @@ fn one_block<'a>(
         join_at(joins, number as usize),
         insts,
         writing,
+        numbers,
     )?;
     Ok(Block::of(name, lines))
 }
@@ -79,20 +93,29 @@ fn all_lines(
     joined: &[ValueId],
     insts: Vec<Inst>,
     writing: &mut Writing<'_>,
+    numbers: &mut Vec<u32>,
 ) -> Result<Vec<Inst>, Memory>
     ensures lines { IfOk result (λ lines. lines.items ≡ phi_lines preds.now writing.old joined.now ++ written groups.now (phis_behind preds.now writing.old joined.now) insts.items) }
     ensures writing { IfOk result (λ _. writing.new ≡ behind groups.now (phis_behind preds.now writing.old joined.now) insts.items) }
 {
     if are_kept(joined, insts.as_slice()) {
         let mut lines = insts;
-        fill_lines(alloc, lines.as_mut_slice(), writing);
+        fill_all(alloc, &mut lines, writing);
         return Ok(lines);
     }
     let room = text_room(insts.as_slice(), groups, writing.counts.tokens as usize);
     let mut lines = Vec::with_capacity(alloc, room.saturating_add(joined.len()))?;
-    push_phis(alloc, preds, joined, writing, &mut lines)?;
-    push_lines(alloc, groups, insts, writing, &mut lines)?;
+    push_phis(alloc, preds, joined, writing, numbers, &mut lines)?;
+    push_lines(alloc, groups, insts, writing, numbers, &mut lines)?;
     Ok(lines)
+}
+
+fn fill_all(alloc: Global, lines: &mut Vec<Inst>, writing: &mut Writing<'_>)
+    requires { list_any (λ inst. is_call inst.op) lines.old.items ≡ false }
+    ensures lines { (groups : List GroupContent) → lines.new.items ≡ written groups writing.old lines.old.items }
+    ensures writing { (groups : List GroupContent) → writing.new ≡ behind groups writing.old lines.old.items }
+{
+    fill_lines(alloc, lines.as_mut_slice(), writing);
 }
 
 // Whether no line is put in.

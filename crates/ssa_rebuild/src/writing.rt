@@ -35,13 +35,14 @@ pub(crate) fn push_phis(
     preds: &[BlockId],
     values: &[ValueId],
     writing: &mut Writing<'_>,
+    numbers: &mut Vec<u32>,
     lines: &mut Vec<Inst>,
 ) -> Result<(), Memory>
     ensures lines { IfOk result (λ _. lines.new.items ≡ lines.old.items ++ phi_lines preds.now writing.old values.now) }
     ensures writing { IfOk result (λ _. writing.new ≡ phis_behind preds.now writing.old values.now) }
 {
     for _value in values {
-        push_phi(alloc, preds, writing, lines)?;
+        push_phi(alloc, preds, writing, numbers, lines)?;
     }
     Ok(())
 }
@@ -50,6 +51,7 @@ fn push_phi(
     alloc: Global,
     preds: &[BlockId],
     writing: &mut Writing<'_>,
+    numbers: &mut Vec<u32>,
     lines: &mut Vec<Inst>,
 ) -> Result<(), Memory>
     ensures lines { IfOk result (λ _. lines.new.items ≡ lines.old.items ++ phi_line preds.now writing.old ∷ []) }
@@ -58,7 +60,7 @@ fn push_phi(
     if writing.joined == u32::MAX {
         return Err(Memory);
     }
-    let numbers = writing.entries.next_ones(alloc, preds.len())?;
+    writing.entries.next_ones(preds.len(), numbers)?;
     let operands = values(alloc, numbers.as_slice())?;
     let named = name(alloc, b"sp.m", writing.joined)?;
     let labels = SmallVec::from_slice(alloc, preds)?;
@@ -91,13 +93,14 @@ pub(crate) fn push_lines(
     groups: &[Group],
     insts: Vec<Inst>,
     writing: &mut Writing<'_>,
+    numbers: &mut Vec<u32>,
     lines: &mut Vec<Inst>,
 ) -> Result<(), Memory>
     ensures lines { IfOk result (λ _. lines.new.items ≡ lines.old.items ++ written groups.now writing.old insts.items) }
     ensures writing { IfOk result (λ _. writing.new ≡ behind groups.now writing.old insts.items) }
 {
     for inst in insts {
-        push_line(alloc, groups, inst, writing, lines)?;
+        push_line(alloc, groups, inst, writing, numbers, lines)?;
     }
     Ok(())
 }
@@ -107,13 +110,14 @@ fn push_line(
     groups: &[Group],
     inst: Inst,
     writing: &mut Writing<'_>,
+    numbers: &mut Vec<u32>,
     lines: &mut Vec<Inst>,
 ) -> Result<(), Memory>
     ensures lines { IfOk result (λ _. lines.new.items ≡ lines.old.items ++ line_written groups.now writing.old inst) }
     ensures writing { IfOk result (λ _. writing.new ≡ after groups.now writing.old inst) }
 {
     if is_call(inst.op()) {
-        return push_call(alloc, groups, inst, writing, lines);
+        return push_call(alloc, groups, inst, writing, numbers, lines);
     }
     let mut line = inst;
     fill_line(alloc, &mut line, writing);
@@ -150,8 +154,7 @@ fn stands(inst: &Inst) -> bool
     ensures bundle { result ≡ true → inst.now.bundle ≡ [] }
     ensures labels { result ≡ true → is_phi inst.now.op ≡ true → length inst.now.operands ≤ length inst.now.labels }
 {
-    inst.bundle().is_empty()
-        && (!is_phi(inst.op()) || inst.operands().len() <= inst.labels().len())
+    inst.bundle().is_empty() && (!is_phi(inst.op()) || inst.operands().len() <= inst.labels().len())
 }
 
 fn fill_standing(inst: &mut Inst, writing: &mut Writing<'_>)
@@ -249,6 +252,7 @@ fn push_call(
     groups: &[Group],
     inst: Inst,
     writing: &mut Writing<'_>,
+    numbers: &mut Vec<u32>,
     lines: &mut Vec<Inst>,
 ) -> Result<(), Memory>
     requires { is_call inst.op ≡ true }
@@ -259,7 +263,15 @@ fn push_call(
         None => Err(Memory),
         Some(group) => {
             let counts = counts_with(writing.counts, group.relocates().len())?;
-            write_group(alloc, group, inst, writing.counts, &mut writing.body, lines)?;
+            write_group(
+                alloc,
+                group,
+                inst,
+                writing.counts,
+                &mut writing.body,
+                numbers,
+                lines,
+            )?;
             writing.counts = counts;
             Ok(())
         }
@@ -286,6 +298,7 @@ fn write_group(
     inst: Inst,
     counts: Counts,
     body: &mut Stream<'_>,
+    numbers: &mut Vec<u32>,
     lines: &mut Vec<Inst>,
 ) -> Result<(), Memory>
     requires { counts.relocates + length group.now.relocates < 2 ^ 32 - 1 }
@@ -296,7 +309,7 @@ fn write_group(
     let count = group.relocates().len();
     let results = results_in(&named);
     fill(operands.as_mut_slice(), body);
-    let live = body.next_ones(alloc, count)?;
+    body.next_ones(count, numbers)?;
     fill_bundle(bundle.as_mut_slice(), body);
     let token = body.first();
     body.skip(1);
@@ -311,7 +324,7 @@ fn write_group(
         operands,
         bundle,
     };
-    push_group(alloc, call, group, live.as_slice(), token, counts, lines)
+    push_group(alloc, call, group, numbers.as_slice(), token, counts, lines)
 }
 
 // The callee of a call, and the types of its arguments.
