@@ -1,5 +1,5 @@
 -- The graph of places, row by row.
-use Rattle.std.proofs.Common.{◌≡◌, ℕ, zero, suc, ◌+◌, ◌-◌, ◌<◌, ◌≤◌, Bool, true, false, if◌then◌else◌, List, [], ◌∷◌, ◌++◌, length, map, get_or, replicate, append-nil, refl, ap, sym, arith, Some, Option, slice_get, ◌∙◌}
+use Rattle.std.proofs.Common.{◌≡◌, ℕ, zero, suc, ◌+◌, ◌-◌, ◌<◌, ◌≤◌, Bool, true, false, ◌&&◌, if◌then◌else◌, List, [], ◌∷◌, ◌++◌, length, map, get_or, replicate, append-nil, refl, ap, sym, arith, Some, Option, slice_get, ◌∙◌}
 use Rattle.std.specs.Prelude.{unwrap_or}
 use Rattle.std.specs.List.{range_with_len}
 use Rattle.std.specs.Global.{Vec}
@@ -7,14 +7,19 @@ use Rattle.std.proofs.lemmas.Option.{get_or_from_slice_get, unwrap_or-slice_get}
 use Rattle.std.proofs.lemmas.List.{length-append, length-map, length-replicate}
 use Rattle.std.proofs.lemmas.List.FromFn.{length-range_with_len}
 use Rattle.sp_ids.specs.declared.ids.ValueId.{ValueId}
+use Rattle.sp_ids.specs.declared.ids.BlockId.{BlockId}
+use Rattle.ir_ast.specs.Funcs.{Function}
+use Rattle.ir_ast.specs.Edges.{targets}
+use Rattle.ir_cfg.specs.Graphs.{Graph, graph_of, preds_of}
+use Rattle.object_meaning.specs.Lines.{registers_of}
+use Rattle.rewriting_forms.specs.Numbered.{preds}
 use Rattle.graph_search.specs.Edges.{targets_of}
 use Rattle.graph_search.specs.Paths.{ReachedFrom, at_start, along, MarksReached}
 use Rattle.list_laws.proofs.Contents.{contains_none}
 use Rattle.live_sets.specs.Values.{has_mark}
 use Rattle.list_laws.proofs.Places.{get_front, get_past, get_map}
 use Rattle.live_sets.specs.Starts.{list_at}
-use Rattle.live_sets.specs.Ends.{numbers_of, end_row, backward_rows, AddsEnds}
-use Rattle.live_sets.proofs.NumberLemmas.{get_read}
+use Rattle.live_sets.specs.Ends.{fronts_of, Places, end_row, backward_rows, rows_of, AreFronts, AddsEnds}
 
 range_get : (from count k : ℕ) → k < count → slice_get (range_with_len from count) k ≡ Some (from + k)
 range_get from zero k below = absurd (omega arith)
@@ -52,12 +57,30 @@ module _ (fronts : List (List ℕ)) (firsts : List ℕ) (value : ℕ) where
       let e : node ≡ length fronts + (node - length fronts) = omega arith in
       ap (targets_of rows) e ∙ row_of_front (node - length fronts)
 
-pub numbers_length : (lists : List (Vec ℕ)) → length (numbers_of lists) ≡ length lists
-numbers_length lists = length-map lists (λ (list : Vec ℕ). list.items)
+pub fronts_length : (graph : Graph) → length (fronts_of graph) ≡ length graph
+fronts_length graph =
+    length-map (range_with_len 0 (length graph)) (λ (b : ℕ). map (λ (l : BlockId). l.0) (preds_of graph b)) ∙ length-range_with_len 0 (length graph)
 
-pub numbers_get : (lists : List (Vec ℕ)) (place : ℕ) (list : Vec ℕ) → place < length lists → list ≡ get_or lists place list → get_or (numbers_of lists) place [] ≡ list.items
-numbers_get lists place list below is =
-    get_or_from_slice_get (numbers_of lists) place list.items [] (get_map (λ (l : Vec ℕ). l.items) lists place list (get_read lists place list below is))
+pub front_of : (graph : Graph) (b : ℕ) → b < length graph → get_or (fronts_of graph) b [] ≡ map (λ (l : BlockId). l.0) (preds_of graph b)
+front_of graph b below =
+    let e : 0 + b ≡ b = omega arith in
+    get_or_from_slice_get (fronts_of graph) b (map (λ (l : BlockId). l.0) (preds_of graph b)) []
+    (get_map (λ (n : ℕ). map (λ (l : BlockId). l.0) (preds_of graph n)) (range_with_len 0 (length graph)) b b (range_get 0 (length graph) b below ∙ ap Some e))
+
+pub fronts_are : (func : Function) (graph : Graph) → graph ≡ graph_of func → AreFronts func (fronts_of graph)
+fronts_are func graph is = ap fronts_of is ∙ ap (λ (n : ℕ). map (preds func) (range_with_len 0 n)) (length-map func.blocks targets)
+
+pub rows_are : (func : Function) (graph : Graph) (firsts : List ℕ) (value : ℕ) (places : Places) → graph ≡ graph_of func → firsts ≡ registers_of func
+    → places ≡ record { fronts = fronts_of graph; firsts = firsts; value = value }
+    → rows_of places ≡ backward_rows (map (preds func) (range_with_len 0 (length func.blocks))) (registers_of func) value
+rows_are func graph firsts value places graph_is firsts_are are =
+    ap rows_of are ∙ ap (λ (fronts : List (List ℕ)). backward_rows fronts firsts value) (fronts_are func graph graph_is)
+    ∙ ap (λ (ns : List ℕ). backward_rows (map (preds func) (range_with_len 0 (length func.blocks))) ns value) firsts_are
+
+pub places_length : (func : Function) (graph : Graph) (firsts : List ℕ) (value : ℕ) (places : Places) → graph ≡ graph_of func
+    → places ≡ record { fronts = fronts_of graph; firsts = firsts; value = value } → length places.fronts ≡ length func.blocks
+places_length func graph firsts value places graph_is are =
+    ap (λ (p : Places). length p.fronts) are ∙ fronts_length graph ∙ ap length graph_is ∙ length-map func.blocks targets
 
 -- nothing is reached from no start
 pub none_reached : (rows : List (List ℕ)) (node : ℕ) → ReachedFrom rows [] node → ⊥
@@ -81,13 +104,19 @@ unmarked_at zero node = refl
 unmarked_at (suc n) zero = refl
 unmarked_at (suc n) (suc node) = unmarked_at n node
 
-pub adds_none : (rows : List (List ℕ)) (starts : List ℕ) (value : ValueId) (ends : List (Vec ValueId)) → length starts ≡ 0 → AddsEnds rows starts value ends ends
-adds_none rows (x ∷ starts) value ends none = absurd (omega (arith, none))
-adds_none rows [] value ends none = record {
+pub both_false : (t : Bool) → (t && false) ≡ false
+both_false true = refl
+both_false false = refl
+
+pub adds_none : (rows : List (List ℕ)) (wanted : List Bool) (starts : List ℕ) (value : ValueId) (ends : List (Vec ValueId)) → length starts ≡ 0
+    → AddsEnds rows wanted starts value ends ends
+adds_none rows wanted (x ∷ starts) value ends none = absurd (omega (arith, none))
+adds_none rows wanted [] value ends none = record {
   marks = replicate (length rows) false;
   reached = no_marks rows;
   whole = refl;
-  each = λ block below. sym (ap (λ (t : Bool). list_at ends block ++ (if t then value ∷ [] else [])) (unmarked_at (length rows) block) ∙ append-nil (list_at ends block));
+  each = λ block below. sym (ap (λ (t : Bool). list_at ends block ++ (if t then value ∷ [] else []))
+      (ap (λ (t : Bool). has_mark wanted block && t) (unmarked_at (length rows) block) ∙ both_false (has_mark wanted block)) ∙ append-nil (list_at ends block));
 }
 
 pub only_target : (t : Bool) (to number : ℕ) → number < length (if t then [] else to ∷ []) → slice_get (if t then [] else to ∷ []) number ≡ Some to

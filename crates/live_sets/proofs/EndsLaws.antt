@@ -1,10 +1,9 @@
 -- The lists of live pointers at the ends of blocks, a pointer at a time.
 use Rattle.std.proofs.Common.{◌≡◌, ℕ, zero, suc, ◌+◌, ◌<◌, ◌≤◌, Bool, true, false, if◌then◌else◌, List, [], ◌∷◌, ◌++◌, length, map, filter, take, get_or, refl, ap, sym, arith, Some, None, Option, slice_get, ◌∙◌}
-use Rattle.std.specs.List.{All, range_with_len}
+use Rattle.std.specs.List.{All, list_any}
 use Rattle.std.specs.Option.{option_map_or}
 use Rattle.std.specs.Global.{Vec}
 use Rattle.std.proofs.lemmas.List.{map-append, length-map, take_all}
-use Rattle.std.proofs.lemmas.List.FromFn.{length-range_with_len}
 use Rattle.std.proofs.lemmas.List.Elements.{filter-append}
 use Rattle.std.proofs.lemmas.Option.{get_or_from_slice_get}
 use Rattle.std.proofs.Math.Seq.{take-suc}
@@ -14,16 +13,13 @@ use Rattle.ir_ast.specs.Funcs.{Function}
 use Rattle.ir_ast.specs.Types.{is_pointer}
 use Rattle.ir_ast.specs.Values.{value_types}
 use Rattle.list_laws.proofs.Contents.{contains_get, all_at}
-use Rattle.rewriting_forms.specs.Numbered.{pointers, preds}
+use Rattle.rewriting_forms.specs.Numbered.{pointers, succs}
+use Rattle.rewriting_forms.specs.Liveness.{live_over, live_front}
 use Rattle.live_sets.specs.Values.{has_mark, valued}
 use Rattle.live_sets.specs.Starts.{list_at}
-use Rattle.live_sets.specs.Ends.{numbers_of, AreFronts, lives_at_end}
+use Rattle.live_sets.specs.Ends.{lives_at_end, AreEnds}
 use Rattle.live_sets.proofs.UseLemmas.{among_mark, marked_within}
 use Rattle.live_sets.proofs.EdgeLemmas.{among_has}
-use Rattle.live_sets.proofs.EndLemmas.{numbers_length}
-
-pub fronts_count : (func : Function) (fronts : List (Vec ℕ)) → AreFronts func (numbers_of fronts) → length fronts ≡ length func.blocks
-fronts_count func fronts are = sym (numbers_length fronts) ∙ ap length are ∙ length-map (range_with_len 0 (length func.blocks)) (preds func) ∙ length-range_with_len 0 (length func.blocks)
 
 pub empty_at : {A : Type 0} (lists : List (Vec A)) (b : ℕ) → All (λ (list : Vec A). list.items ≡ []) lists → list_at lists b ≡ []
 empty_at lists b all = go (slice_get lists b) refl
@@ -82,3 +78,18 @@ ends_more func table b i value old new found at so_far mark added =
 pub ends_all : (func : Function) (table : List Operand) (b i : ℕ) (ends : List ValueId) → length (pointers func) ≤ i
     → ends ≡ map valued (filter (lives_at_end func table b) (take i (pointers func))) → ends ≡ map valued (filter (lives_at_end func table b) (pointers func))
 ends_all func table b i ends past so_far = so_far ∙ ap (λ (xs : List ℕ). map valued (filter (lives_at_end func table b) xs)) (take_all i (pointers func) past)
+
+-- without edges nothing is live at the end of a block
+pub ends_none : (func : Function) (table : List Operand) (wanted : List Bool) (ends : List (Vec ValueId)) → length ends ≡ length func.blocks → ((b : ℕ) → list_at ends b ≡ [])
+    → ((b : ℕ) → b < length func.blocks → succs func b ≡ []) → AreEnds func table wanted ends
+ends_none func table wanted ends whole empty none = record {
+  whole = whole;
+  each = λ b below is. empty b ∙ sym (ap (map valued) (no_pointers b (none b below) (pointers func)));
+}
+  where
+    no_pointers : (b : ℕ) → succs func b ≡ [] → (xs : List ℕ) → filter (lives_at_end func table b) xs ≡ []
+    no_pointers b none [] = refl
+    no_pointers b none (x ∷ xs) =
+        let dead : lives_at_end func table b x ≡ false = ap (list_any (live_over func table x (live_front func table x (length func.blocks)) b)) none in
+        let rest = no_pointers b none xs in
+        rw dead rest

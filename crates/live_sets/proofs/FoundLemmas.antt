@@ -12,10 +12,9 @@ use Rattle.rewriting_forms.specs.Numbered.{among}
 use Rattle.rewriting_forms.specs.Names.{is_many}
 use Rattle.live_sets.specs.Values.{has_mark}
 use Rattle.live_sets.specs.Starts.{list_at, GrownAt}
-use Rattle.live_sets.specs.Ends.{numbers_of, GrownWhere, AddsEnds}
+use Rattle.live_sets.specs.Ends.{GrownWhere, AddsEnds}
 use Rattle.live_sets.specs.Joins.{AddsJoins}
 use Rattle.live_sets.proofs.UseLemmas.{same_test}
-use Rattle.live_sets.proofs.EndLemmas.{numbers_get}
 use Rattle.live_sets.proofs.EdgeLemmas.{among_has, has_among}
 
 mark_stands : (marks : List Bool) (k : ℕ) → has_mark marks k ≡ true → slice_get marks k ≡ Some true
@@ -81,16 +80,16 @@ found_more t value found i x w old mid new once at first second =
     not_true true none = absurd (none refl)
     not_true false none = refl
 
-pub adds_found : (rows : List (List ℕ)) (starts found : List ℕ) (value : ValueId) (old new : List (Vec ValueId)) (i : ℕ) → ListsReached rows starts found → length found ≤ i
+pub adds_found : (rows : List (List ℕ)) (wanted : List Bool) (starts found : List ℕ) (value : ValueId) (old new : List (Vec ValueId)) (i : ℕ) → ListsReached rows starts found → length found ≤ i
     → length new ≡ length old
-    → ((b : ℕ) → b < length old → list_at new b ≡ list_at old b ++ (if among b (take i found) then value ∷ [] else []))
-    → AddsEnds rows starts value old new
-adds_found rows starts found value old new i lists past whole each = record {
+    → ((b : ℕ) → b < length old → list_at new b ≡ list_at old b ++ (if has_mark wanted b && among b (take i found) then value ∷ [] else []))
+    → AddsEnds rows wanted starts value old new
+adds_found rows wanted starts found value old new i lists past whole each = record {
   marks = lists.marks;
   reached = lists.reached;
   whole = whole;
   each = λ b below. each b below
-      ∙ ap (λ (t : Bool). list_at old b ++ (if t then value ∷ [] else [])) (ap (among b) (take_all i found past) ∙ found_mark rows starts found lists b);
+      ∙ ap (λ (t : Bool). list_at old b ++ (if has_mark wanted b && t then value ∷ [] else [])) (ap (among b) (take_all i found past) ∙ found_mark rows starts found lists b);
 }
 
 pub joins_found : (rows fronts : List (List ℕ)) (count : ℕ) (starts found : List ℕ) (wanted : Bool) (value : ValueId) (old new : List (Vec ValueId)) (i : ℕ)
@@ -121,26 +120,24 @@ grown_where old new place item test grown same = record {
 }
 
 -- a front that one edge leads to is no join
-pub not_many_where : (fronts : List (Vec ℕ)) (joins : List (Vec ValueId)) (place block : ℕ) (value : ValueId) (list : Vec ℕ) → list ≡ get_or fronts block list
-    → block < length fronts → is_many list.items ≡ false → place ≡ length joins + block
-    → GrownWhere joins joins (λ b. is_many (get_or (numbers_of fronts) b []) && eqb place (length joins + b)) value
-not_many_where fronts joins place block value list is within none place_is =
-    none_where joins (λ b. is_many (get_or (numbers_of fronts) b []) && eqb place (length joins + b)) value (λ b below. elim (cases_eq block b) [
+pub not_many_where : (fronts : List (List ℕ)) (joins : List (Vec ValueId)) (place block : ℕ) (value : ValueId) → is_many (get_or fronts block []) ≡ false
+    → place ≡ length joins + block → GrownWhere joins joins (λ b. is_many (get_or fronts b []) && eqb place (length joins + b)) value
+not_many_where fronts joins place block value none place_is =
+    none_where joins (λ b. is_many (get_or fronts b []) && eqb place (length joins + b)) value (λ b below. elim (cases_eq block b) [
       | inl e ↦
-          let few = ap (λ (n : ℕ). is_many (get_or (numbers_of fronts) n [])) (sym e) ∙ ap is_many (numbers_get fronts block list within is) ∙ none in
+          let few = ap (λ (n : ℕ). is_many (get_or fronts n [])) (sym e) ∙ none in
           ap (λ (t : Bool). t && eqb place (length joins + b)) few
       | inr ne ↦
-          ap (λ (t : Bool). is_many (get_or (numbers_of fronts) b []) && t) (ne_eqb place (length joins + b) (λ same. ne (omega (arith, same, place_is))))
-          ∙ both_false (is_many (get_or (numbers_of fronts) b []))
+          ap (λ (t : Bool). is_many (get_or fronts b []) && t) (ne_eqb place (length joins + b) (λ same. ne (omega (arith, same, place_is))))
+          ∙ both_false (is_many (get_or fronts b []))
     ])
   where
     both_false : (t : Bool) → (t && false) ≡ false
     both_false true = refl
     both_false false = refl
 
-pub join_grown : (fronts read : List (Vec ℕ)) (place count size b : ℕ) (value : ValueId) (old new : List ValueId) → read ≡ fronts → size ≡ count
-    → new ≡ old ++ (if is_many (get_or (numbers_of read) b []) && eqb place (size + b) then value ∷ [] else [])
-    → new ≡ old ++ (if is_many (get_or (numbers_of fronts) b []) && eqb place (count + b) then value ∷ [] else [])
-join_grown fronts read place count size b value old new same whole grown =
-    grown ∙ ap (λ (fs : List (Vec ℕ)). old ++ (if is_many (get_or (numbers_of fs) b []) && eqb place (size + b) then value ∷ [] else [])) same
-    ∙ ap (λ (n : ℕ). old ++ (if is_many (get_or (numbers_of fronts) b []) && eqb place (n + b) then value ∷ [] else [])) whole
+pub join_grown : (fronts : List (List ℕ)) (place count size b : ℕ) (value : ValueId) (old new : List ValueId) → size ≡ count
+    → new ≡ old ++ (if is_many (get_or fronts b []) && eqb place (size + b) then value ∷ [] else [])
+    → new ≡ old ++ (if is_many (get_or fronts b []) && eqb place (count + b) then value ∷ [] else [])
+join_grown fronts place count size b value old new whole grown =
+    grown ∙ ap (λ (n : ℕ). old ++ (if is_many (get_or fronts b []) && eqb place (n + b) then value ∷ [] else [])) whole

@@ -43,15 +43,15 @@ grown_at lists place new item below pushed = record {
   ];
 }
 
-pub grown_none : (lists : List (Vec ℕ)) (added : ℕ → List ℕ) → ((v : ℕ) → v < length lists → added v ≡ []) → Grown lists lists added
-grown_none lists added none = record { whole = refl; each = λ v within. sym (ap (λ (xs : List ℕ). list_at lists v ++ xs) (none v within) ∙ append-nil (list_at lists v)) }
+pub grown_none : (wanted : List Bool) (lists : List (Vec ℕ)) (added : ℕ → List ℕ) → ((v : ℕ) → v < length lists → added v ≡ []) → Grown wanted lists lists added
+grown_none wanted lists added none = record { whole = refl; each = λ v within is. sym (ap (λ (xs : List ℕ). list_at lists v ++ xs) (none v within) ∙ append-nil (list_at lists v)) }
 
-pub grown_both : (old mid new : List (Vec ℕ)) (one two both : ℕ → List ℕ) → Grown old mid one → Grown mid new two → ((v : ℕ) → both v ≡ one v ++ two v)
-    → Grown old new both
-grown_both old mid new one two both first second split = record {
+pub grown_both : (wanted : List Bool) (old mid new : List (Vec ℕ)) (one two both : ℕ → List ℕ) → Grown wanted old mid one → Grown wanted mid new two
+    → ((v : ℕ) → both v ≡ one v ++ two v) → Grown wanted old new both
+grown_both wanted old mid new one two both first second split = record {
   whole = second.whole ∙ first.whole;
-  each = λ v within.
-      second.each v (let same = first.whole in omega arith) ∙ ap (λ (xs : List ℕ). xs ++ two v) (first.each v within)
+  each = λ v within is.
+      second.each v (let same = first.whole in omega arith) is ∙ ap (λ (xs : List ℕ). xs ++ two v) (first.each v within is)
       ∙ append_assoc (list_at old v) (one v) (two v) ∙ sym (ap (λ (xs : List ℕ). list_at old v ++ xs) (split v));
 }
 

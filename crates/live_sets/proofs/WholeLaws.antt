@@ -1,17 +1,20 @@
 -- The lists of all calls.
-use Rattle.std.proofs.Common.{◌≡◌, ℕ, ◌+◌, ◌-◌, ◌≤◌, Bool, List, [], ◌∷◌, ◌++◌, length, map, filter, refl, ap, sym, arith, inl, inr, ◌∙◌}
+use Rattle.std.proofs.Common.{◌≡◌, ℕ, zero, suc, slice_get, ◌+◌, ◌-◌, ◌≤◌, Bool, List, [], ◌∷◌, ◌++◌, length, map, filter, refl, ap, sym, arith, inl, inr, ◌∙◌}
 use Rattle.std.specs.Prelude.{is_some, reverse}
-use Rattle.std.specs.List.{range_with_len, flat_map}
+use Rattle.std.specs.List.{list_any, range_with_len, flat_map}
+use Rattle.std.specs.Option.{option_map_or}
 use Rattle.std.specs.Global.{Vec}
 use Rattle.std.proofs.lemmas.Bool.{cases_Bool}
 use Rattle.std.proofs.lemmas.List.{map-append, length-map, length-append, reverse-append, reverse-reverse}
 use Rattle.sp_ids.specs.declared.ids.ValueId.{ValueId}
 use Rattle.ir_ast.specs.declared.ops.Operand.{Operand}
 use Rattle.ir_ast.specs.Insts.{Instruction}
+use Rattle.ir_ast.specs.Blocks.{BasicBlock}
+use Rattle.object_meaning.specs.Lines.{insts_in}
 use Rattle.ir_ast.specs.Funcs.{Function, instructions_of}
 use Rattle.ir_ast.specs.Types.{is_pointer}
 use Rattle.ir_ast.specs.Values.{argument, outcome, definition_type, definitions_of, value_types}
-use Rattle.rewriting_forms.specs.Numbered.{lines_at, pointers}
+use Rattle.rewriting_forms.specs.Numbered.{is_call, lines_at, pointers}
 use Rattle.rewriting_forms.specs.Liveness.{lists_from, live_lists}
 use Rattle.live_sets.specs.Values.{has_mark, valued}
 use Rattle.live_sets.specs.Lists.{items_of}
@@ -47,6 +50,16 @@ values_are func marks right =
     let long = ap length right ∙ length-map (value_types func) is_pointer in
     ap (λ (n : ℕ). map valued (filter (has_mark marks) (range_with_len 0 n))) long
     ∙ ap (map valued) (same_filter (has_mark marks) _ (range_with_len 0 (length (value_types func))) (λ x. sym (pointer_at func marks right x)))
+
+pub calling_at : (func : Function) (b : ℕ)
+    → has_mark (map (λ (block : BasicBlock). list_any (λ (inst : Instruction). is_call inst.op) block.insts) func.blocks) b ≡ list_any (λ (inst : Instruction). is_call inst.op) (insts_in func b)
+calling_at func b = go func.blocks b
+  where
+    go : (blocks : List BasicBlock) (b : ℕ) → has_mark (map (λ (block : BasicBlock). list_any (λ (inst : Instruction). is_call inst.op) block.insts) blocks) b
+        ≡ list_any (λ (inst : Instruction). is_call inst.op) (option_map_or (λ (block : BasicBlock). block.insts) (slice_get blocks b) [])
+    go [] b = refl
+    go (block ∷ blocks) zero = refl
+    go (block ∷ blocks) (suc b) = go blocks b
 
 items_reverse : (lists : List (Vec ValueId)) → items_of (reverse lists) ≡ reverse (items_of lists)
 items_reverse [] = refl

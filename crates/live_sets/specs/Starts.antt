@@ -1,5 +1,5 @@
 -- Where walks backwards begin, by value. The places are the nodes of a graph: the ends of the blocks, and behind them their fronts.
-use Rattle.std.specs.Prelude.{◌≡◌, ℕ, ◌<◌, ◌+◌, ◌==◌, Bool, not, ◌&&◌, nat_le, nat_lt, if◌then◌else◌, List, [], ◌∷◌, ◌++◌, length, Option, Some, None, slice_get, slice_index}
+use Rattle.std.specs.Prelude.{◌≡◌, ℕ, ◌<◌, ◌+◌, ◌==◌, Bool, true, not, ◌&&◌, nat_le, nat_lt, if◌then◌else◌, List, [], ◌∷◌, ◌++◌, length, Option, Some, None, slice_get, slice_index}
 use Rattle.std.specs.List.{flat_map, range_with_len}
 use Rattle.std.specs.Option.{option_map_or}
 use Rattle.std.specs.Global.{Vec}
@@ -68,16 +68,17 @@ starts_of func marks table v = flat_map (starts_in func marks table v) (range_wi
 abbrev pub list_at : {A : Type 0} → List (Vec A) → ℕ → List A
 list_at lists v = option_map_or (λ list. list.items) (slice_get lists v) []
 
--- each list has some items more
-pub record Grown (old new : List (Vec ℕ)) (added : ℕ → List ℕ) : Type 0 where
+-- each list of a wanted value has some items more
+pub record Grown (wanted : List Bool) (old new : List (Vec ℕ)) (added : ℕ → List ℕ) : Type 0 where
   pub whole : length new ≡ length old
-  pub each : (v : ℕ) → v < length old → list_at new v ≡ list_at old v ++ added v
+  pub each : (v : ℕ) → v < length old → has_mark wanted v ≡ true → list_at new v ≡ list_at old v ++ added v
 
 -- one of the lists has an item more
 pub record GrownAt {A : Type 0} (old new : List (Vec A)) (place : ℕ) (item : A) : Type 0 where
   pub whole : length new ≡ length old
   pub each : (v : ℕ) → v < length old → list_at new v ≡ list_at old v ++ (if place == v then item ∷ [] else [])
 
-pub record AreStarts (func : Function) (marks : List Bool) (table : List Operand) (starts : List (Vec ℕ)) : Type 0 where
+-- the starts of the wanted values
+pub record AreStarts (func : Function) (marks : List Bool) (table : List Operand) (wanted : List Bool) (starts : List (Vec ℕ)) : Type 0 where
   pub whole : length starts ≡ length marks
-  pub each : (v : ℕ) → v < length marks → list_at starts v ≡ starts_of func marks table v
+  pub each : (v : ℕ) → v < length marks → has_mark wanted v ≡ true → list_at starts v ≡ starts_of func marks table v

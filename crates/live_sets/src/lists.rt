@@ -8,7 +8,7 @@ ghost use Rattle.ir_ast.specs.Callees.{is_leaf};
 ghost use Rattle.ir_ast.specs.Types.{is_pointer};
 ghost use Rattle.ir_ast.specs.Values.{value_types};
 ghost use Rattle.ir_cfg.specs.Graphs.{graph_of};
-ghost use Rattle.object_meaning.specs.Lines.{following, numbered};
+ghost use Rattle.object_meaning.specs.Lines.{following, numbered, insts_in};
 ghost use Rattle.rewriting_forms.specs.Numbered.{is_call, pointers, lines_at};
 ghost use Rattle.rewriting_forms.specs.Liveness.{lists_from, live_lists};
 ghost use Rattle.live_sets.specs.Values.{valued};
@@ -21,9 +21,8 @@ ghost use Rattle.live_sets.specs.Lists.{items_of, is_held, AddsList, AddsBlock};
 use crate::ends::ends;
 use crate::numbers::{after, first_numbers};
 use crate::pointer_sets::PointerSet;
-use crate::starts::starts;
 use crate::uses::{go_back, put, put_bundle};
-use crate::values::{marked, pointer_marks};
+use crate::values::{is_marked, pointer_marks};
 use ir_ast::{BaseTable, Callee, Func, Inst, LiveTable, Op, Operand};
 use ir_cfg::Cfg;
 use sp_ids::{Memory, ValueId};
@@ -43,24 +42,22 @@ pub fn live(alloc: Global, func: &Func, cfg: &Cfg, bases: &BaseTable) -> Result<
     let mut number = func.blocks().len();
     let table = bases.bases();
     let marks = pointer_marks(alloc, func)?;
-    let values = marked(alloc, marks.as_slice())?;
     let firsts = first_numbers(alloc, func)?;
-    let starts = starts(alloc, func, marks.as_slice(), table, firsts.as_slice())?;
-    let numbers = Vec::from_slice(alloc, firsts.as_slice())?;
+    let calling = calling(alloc, func)?;
     let ends = ends(
         alloc,
         func,
         cfg,
         marks.as_slice(),
-        numbers,
-        values.as_slice(),
-        starts.as_slice(),
+        firsts.as_slice(),
         table,
+        calling.as_slice(),
     )?;
     let mut set = PointerSet::of(alloc, marks.len())?;
     let mut lists = Vec::new(alloc);
     while number > 0 {
         number -= 1;
+        let has_call = is_marked(calling.as_slice(), number);
         add_block(
             alloc,
             func,
@@ -68,6 +65,7 @@ pub fn live(alloc: Global, func: &Func, cfg: &Cfg, bases: &BaseTable) -> Result<
             firsts[number],
             marks.as_slice(),
             table,
+            has_call,
             ends[number].as_slice(),
             &mut set,
             &mut lists,
@@ -85,6 +83,7 @@ fn add_block(
     first: usize,
     marks: &[bool],
     bases: &[Operand],
+    has_call: bool,
     ends: &[ValueId],
     set: &mut PointerSet,
     lists: &mut Vec<Vec<ValueId>>,
@@ -92,13 +91,14 @@ fn add_block(
     requires number { number < length func.now.content.blocks }
     requires first { first ≡ first_of func.now.content number }
     requires marks { marks.now ≡ map is_pointer (value_types func.now.content) }
-    requires ends { ends.now ≡ map valued (filter (lives_at_end func.now.content bases.now number) (pointers func.now.content)) }
+    requires calls { has_call ≡ list_any (λ inst. is_call inst.op) (insts_in func.now.content number) }
+    requires ends { has_call ≡ true → ends.now ≡ map valued (filter (lives_at_end func.now.content bases.now number) (pointers func.now.content)) }
     ensures { IfOk result (λ _. AddsBlock func.now.content bases.now number lists.old.items lists.new.items) }
 {
-    let insts = func.blocks()[number].insts();
-    if !has_call(insts) {
+    if !has_call {
         return Ok(());
     }
+    let insts = func.blocks()[number].insts();
     fill(alloc, marks, ends, set)?;
     let mut next = after(first, insts);
     let mut place = insts.len();
@@ -111,6 +111,17 @@ fn add_block(
         go_back(marks, bases, inst, to, set)?;
     }
     Ok(())
+}
+
+// A mark for each block: whether it calls a function that isn't a leaf.
+fn calling(alloc: Global, func: &Func) -> Result<Vec<bool>, Memory>
+    ensures { IfOk result (λ marks. marks.items ≡ map (λ block. list_any (λ inst. is_call inst.op) block.insts) func.now.content.blocks) }
+{
+    let mut marks = Vec::with_capacity(alloc, func.blocks().len())?;
+    for block in func.blocks() {
+        marks.push(has_call(block.insts()))?;
+    }
+    Ok(marks)
 }
 
 // Whether some instruction calls a function that isn't a leaf.

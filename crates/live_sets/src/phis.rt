@@ -1,6 +1,6 @@
 //! Where phis are inserted.
 
-ghost use Rattle.std.specs.Prelude.{◌≡◌, ◌<◌, ◌≤◌, ◌+◌, ◌++◌, ◌&&◌, ◌==◌, [], ◌∷◌, if◌then◌else◌, length, map, replicate, false, slice_index_or, IfOk, ℕ};
+ghost use Rattle.std.specs.Prelude.{◌≡◌, ◌<◌, ◌≤◌, ◌+◌, ◌++◌, ◌&&◌, ◌==◌, ◌^◌, [], ◌∷◌, if◌then◌else◌, length, map, replicate, true, false, slice_index_or, IfOk, ℕ};
 ghost use Rattle.ir_ast.specs.Types.{is_pointer};
 ghost use Rattle.ir_ast.specs.Values.{value_types};
 ghost use Rattle.object_meaning.specs.Lines.{registers_of};
@@ -11,17 +11,16 @@ ghost use Rattle.ir_cfg.specs.Graphs.{graph_of};
 ghost use Rattle.graph_search.specs.Edges.{AreInside};
 ghost use Rattle.rewriting_forms.specs.Names.{is_many};
 ghost use Rattle.live_sets.specs.Values.{has_mark, valued};
-ghost use Rattle.live_sets.specs.Ends.{backward_rows, numbers_of, GrownWhere};
+ghost use Rattle.live_sets.specs.Ends.{rows_of, GrownWhere};
 ghost use Rattle.live_sets.specs.Joins.{AreListed, AddsJoins, AreJoins};
 
-use crate::ends::{Backward, fronts};
+use crate::ends::{Backward, are_many};
 use crate::numbers::first_numbers;
 use crate::starts::{add_to, empty_lists, starts};
-use crate::values::{marked, pointer_marks};
-use graph_search::Edges;
+use crate::values::{is_marked, marked, pointer_marks};
 use ir_ast::{Func, Operand};
 use ir_cfg::Cfg;
-use shared_search::reached;
+use shared_search::find_reached;
 use sp_ids::{BlockId, Memory, ValueId};
 use std::alloc::Global;
 
@@ -49,14 +48,21 @@ pub fn joins(
     let marks = pointer_marks(alloc, func)?;
     let values = marked(alloc, marks.as_slice())?;
     let firsts = first_numbers(alloc, func)?;
-    let starts = starts(alloc, func, marks.as_slice(), bases, firsts.as_slice())?;
+    let starts = starts(
+        alloc,
+        func,
+        marks.as_slice(),
+        bases,
+        listed,
+        firsts.as_slice(),
+    )?;
     all_joins(
         alloc,
         func,
         cfg,
         count,
         marks.as_slice(),
-        firsts,
+        firsts.as_slice(),
         values.as_slice(),
         starts.as_slice(),
         bases,
@@ -77,19 +83,13 @@ fn has_join(func: &Func, cfg: &Cfg) -> bool
     false
 }
 
-fn are_many(blocks: &[BlockId]) -> bool
-    ensures { result ≡ is_many (map (λ block. block.0) blocks.now) }
-{
-    blocks.len() >= 2
-}
-
 fn all_joins(
     alloc: Global,
     func: &Func,
     cfg: &Cfg,
     count: usize,
     marks: &[bool],
-    firsts: Vec<usize>,
+    firsts: &[usize],
     values: &[ValueId],
     starts: &[Vec<usize>],
     bases: &[Operand],
@@ -98,61 +98,50 @@ fn all_joins(
     requires formed { IsFormed func.now.content }
     requires cfg { cfg.now ≡ graph_of func.now.content }
     requires count { count ≡ length func.now.content.blocks }
+    requires few { count < 2 ^ 31 }
     requires marks { marks.now ≡ map is_pointer (value_types func.now.content) }
-    requires firsts { firsts.items ≡ registers_of func.now.content }
+    requires firsts { firsts.now ≡ registers_of func.now.content }
     requires values { values.now ≡ map valued (pointers func.now.content) }
-    requires starts { AreStarts func.now.content marks.now bases.now starts.now }
+    requires starts { AreStarts func.now.content marks.now bases.now listed.now starts.now }
     requires listed { AreListed func.now.content bases.now listed.now }
     ensures { IfOk result (λ joins. AreJoins func.now.content bases.now joins.items) }
 {
-    let fronts = fronts(alloc, func, cfg)?;
     let mut joins = empty_lists(alloc, count)?;
-    let mut places = Backward {
-        fronts,
-        firsts,
-        value: 0,
-    };
-    let mut seen = vec![in alloc; false; places.node_count()]?;
+    let mut seen = vec![in alloc; false; count + count]?;
+    let mut found = Vec::new(alloc);
     for value in values {
         let number = value.0 as usize;
-        places.value = number;
-        let wanted = is_listed(listed, number);
+        let places = Backward::of(cfg, count, firsts, number);
+        let wanted = is_marked(listed, number);
         add_joins(
-            alloc,
             &places,
             *value,
             wanted,
             starts[number].as_slice(),
             &mut seen,
+            &mut found,
             &mut joins,
         )?;
     }
     Ok(joins)
 }
 
-fn is_listed(listed: &[bool], number: usize) -> bool
-    ensures { result ≡ has_mark listed.now number }
-{
-    listed.get(number).copied().unwrap_or(false)
-}
-
 // Adds a pointer, where it is wanted, to the lists of the joins at whose fronts it is live. The marks of places are clear before and
 // behind.
 fn add_joins(
-    alloc: Global,
-    places: &Backward,
+    places: &Backward<'_>,
     value: ValueId,
     wanted: bool,
     starts: &[usize],
     seen: &mut Vec<bool>,
+    found: &mut Vec<usize>,
     joins: &mut Vec<Vec<ValueId>>,
 ) -> Result<(), Memory>
-    requires inside { AreInside (backward_rows (numbers_of places.now.fronts.items) places.now.firsts.items places.now.value) starts.now }
-    requires clear { seen.old.items ≡ replicate (length places.now.fronts.items + length places.now.fronts.items) false }
-    requires whole { length joins.old.items ≡ length places.now.fronts.items }
+    requires inside { wanted ≡ true → AreInside (rows_of places.now) starts.now }
+    requires clear { seen.old.items ≡ replicate (length places.now.fronts + length places.now.fronts) false }
+    requires whole { length joins.old.items ≡ length places.now.fronts }
     ensures clear { IfOk result (λ _. seen.new.items ≡ seen.old.items) }
-    ensures added { IfOk result (λ _. AddsJoins (backward_rows (numbers_of places.now.fronts.items) places.now.firsts.items places.now.value) (numbers_of places.now.fronts.items)
-        (length joins.old.items) starts.now wanted value joins.old.items joins.new.items) }
+    ensures added { IfOk result (λ _. AddsJoins (rows_of places.now) places.now.fronts (length joins.old.items) starts.now wanted value joins.old.items joins.new.items) }
 {
     if !wanted {
         return Ok(());
@@ -160,29 +149,23 @@ fn add_joins(
     if starts.is_empty() {
         return Ok(());
     }
-    let found = reached(alloc, places, starts, seen)?;
+    find_reached(places, starts, seen, found)?;
     for node in found.as_slice() {
-        add_join(places.fronts.as_slice(), *node, value, joins)?;
+        add_join(places, *node, value, joins)?;
     }
     Ok(())
 }
 
-fn is_many(blocks: &[usize]) -> bool
-    ensures { result ≡ is_many blocks.now }
-{
-    blocks.len() > 1
-}
-
 // Adds a pointer to the list of a block, where the place is its front and two or more edges lead into it.
 fn add_join(
-    fronts: &[Vec<usize>],
+    places: &Backward<'_>,
     place: usize,
     value: ValueId,
     joins: &mut Vec<Vec<ValueId>>,
 ) -> Result<(), Memory>
-    requires whole { length joins.old.items ≡ length fronts.now }
+    requires whole { length joins.old.items ≡ length places.now.fronts }
     ensures { IfOk result (λ _. GrownWhere joins.old.items joins.new.items
-        (λ b. is_many (slice_index_or (numbers_of fronts.now) b []) && (place == (length joins.old.items + b))) value) }
+        (λ b. is_many (slice_index_or places.now.fronts b []) && (place == (length joins.old.items + b))) value) }
 {
     let count = joins.len();
     if place < count {
@@ -192,7 +175,7 @@ fn add_join(
     if block >= count {
         return Ok(());
     }
-    if !is_many(fronts[block].as_slice()) {
+    if !places.is_join(block) {
         return Ok(());
     }
     add_to(joins, block, value)

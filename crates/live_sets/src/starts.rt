@@ -5,6 +5,7 @@ ghost use Rattle.live_sets.specs.Starts.{Grown, GrownAt, AreStarts, is_given, ad
 
 use crate::numbers::following;
 use crate::uses::{is_phi, uses_of};
+use crate::values::is_marked;
 use ir_ast::{Func, Inst, Operand, Ty};
 use sp_ids::{BlockId, Memory, ValueId};
 use std::alloc::Global;
@@ -17,17 +18,18 @@ pub(crate) struct Spot {
     pub(crate) next: usize,
 }
 
-/// For each value that is a pointer, the places from which walks backwards along edges find where it is live: the front of a block
-/// that uses it before giving it, and the end of a block for which a phi's entry uses it.
+/// For each wanted value that is a pointer, the places from which walks backwards along edges find where it is live: the front of a
+/// block that uses it before giving it, and the end of a block for which a phi's entry uses it.
 pub(crate) fn starts(
     alloc: Global,
     func: &Func,
     marks: &[bool],
     bases: &[Operand],
+    wanted: &[bool],
     firsts: &[usize],
 ) -> Result<Vec<Vec<usize>>, Memory>
     requires firsts { firsts.now ≡ registers_of func.now.content }
-    ensures { IfOk result (λ starts. AreStarts func.now.content marks.now bases.now starts.items) }
+    ensures { IfOk result (λ starts. AreStarts func.now.content marks.now bases.now wanted.now starts.items) }
 {
     let mut starts = empty_lists(alloc, marks.len())?;
     let count = func.blocks().len();
@@ -36,6 +38,7 @@ pub(crate) fn starts(
         add_block(
             marks,
             bases,
+            wanted,
             node,
             firsts[number],
             block.insts(),
@@ -50,7 +53,7 @@ pub(crate) fn empty_lists<T: Drop>(alloc: Global, count: usize) -> Result<Vec<Ve
     ensures whole { IfOk result (λ lists. length lists.items ≡ count) }
     ensures empty { IfOk result (λ lists. All (λ list. list.items ≡ []) lists.items) }
 {
-    let mut lists = Vec::new(alloc);
+    let mut lists = Vec::with_capacity(alloc, count)?;
     for _ in 0..count {
         lists.push(Vec::new(alloc))?;
     }
@@ -60,6 +63,7 @@ pub(crate) fn empty_lists<T: Drop>(alloc: Global, count: usize) -> Result<Vec<Ve
 fn add_block(
     marks: &[bool],
     bases: &[Operand],
+    wanted: &[bool],
     node: usize,
     first: usize,
     insts: &[Inst],
@@ -67,11 +71,18 @@ fn add_block(
 ) -> Result<(), Memory>
     requires whole { length starts.old.items ≡ length marks.now }
     requires few { first + length insts.now < 18446744073709551615 }
-    ensures { IfOk result (λ _. Grown starts.old.items starts.new.items (λ v. block_adds marks.now bases.now node first first v insts.now)) }
+    ensures { IfOk result (λ _. Grown wanted.now starts.old.items starts.new.items (λ v. block_adds marks.now bases.now node first first v insts.now)) }
 {
     let mut next = first;
     for inst in insts {
-        add_line(marks, bases, Spot { node, first, next }, inst, starts)?;
+        add_line(
+            marks,
+            bases,
+            wanted,
+            Spot { node, first, next },
+            inst,
+            starts,
+        )?;
         next = following(next, inst);
     }
     Ok(())
@@ -80,46 +91,56 @@ fn add_block(
 fn add_line(
     marks: &[bool],
     bases: &[Operand],
+    wanted: &[bool],
     spot: Spot,
     inst: &Inst,
     starts: &mut Vec<Vec<usize>>,
 ) -> Result<(), Memory>
     requires whole { length starts.old.items ≡ length marks.now }
-    ensures { IfOk result (λ _. Grown starts.old.items starts.new.items (λ v. line_adds marks.now bases.now spot v inst.now)) }
+    ensures { IfOk result (λ _. Grown wanted.now starts.old.items starts.new.items (λ v. line_adds marks.now bases.now spot v inst.now)) }
 {
-    add_own(marks, bases, spot, inst, starts)?;
-    add_bundle(marks, bases, spot, inst.bundle(), starts)
+    add_own(marks, bases, wanted, spot, inst, starts)?;
+    add_bundle(marks, bases, wanted, spot, inst.bundle(), starts)
 }
 
 fn add_own(
     marks: &[bool],
     bases: &[Operand],
+    wanted: &[bool],
     spot: Spot,
     inst: &Inst,
     starts: &mut Vec<Vec<usize>>,
 ) -> Result<(), Memory>
     requires whole { length starts.old.items ≡ length marks.now }
-    ensures { IfOk result (λ _. Grown starts.old.items starts.new.items (λ v. own_adds marks.now bases.now spot v inst.now)) }
+    ensures { IfOk result (λ _. Grown wanted.now starts.old.items starts.new.items (λ v. own_adds marks.now bases.now spot v inst.now)) }
 {
     if is_phi(inst.op()) {
-        return add_entries(marks, bases, inst.labels(), inst.operands(), starts);
+        return add_entries(marks, bases, wanted, inst.labels(), inst.operands(), starts);
     }
-    add_operands(marks, bases, spot, inst.operands(), starts)
+    add_operands(marks, bases, wanted, spot, inst.operands(), starts)
 }
 
 // An entry of a phi is a use at the end of the block of its label.
 fn add_entries(
     marks: &[bool],
     bases: &[Operand],
+    wanted: &[bool],
     labels: &[BlockId],
     operands: &[Operand],
     starts: &mut Vec<Vec<usize>>,
 ) -> Result<(), Memory>
     requires whole { length starts.old.items ≡ length marks.now }
-    ensures { IfOk result (λ _. Grown starts.old.items starts.new.items (λ v. entries_add marks.now bases.now v labels.now operands.now)) }
+    ensures { IfOk result (λ _. Grown wanted.now starts.old.items starts.new.items (λ v. entries_add marks.now bases.now v labels.now operands.now)) }
 {
     for (index, operand) in operands.iter().enumerate() {
-        add_entry(marks, bases, label_at(labels, index), *operand, starts)?;
+        add_entry(
+            marks,
+            bases,
+            wanted,
+            label_at(labels, index),
+            *operand,
+            starts,
+        )?;
     }
     Ok(())
 }
@@ -127,15 +148,16 @@ fn add_entries(
 fn add_entry(
     marks: &[bool],
     bases: &[Operand],
+    wanted: &[bool],
     label: Option<BlockId>,
     operand: Operand,
     starts: &mut Vec<Vec<usize>>,
 ) -> Result<(), Memory>
     requires whole { length starts.old.items ≡ length marks.now }
-    ensures { IfOk result (λ _. Grown starts.old.items starts.new.items (λ v. entry_adds marks.now bases.now v label operand)) }
+    ensures { IfOk result (λ _. Grown wanted.now starts.old.items starts.new.items (λ v. entry_adds marks.now bases.now v label operand)) }
 {
     match label {
-        Some(label) => add_operand(marks, bases, end_of(label), operand, starts),
+        Some(label) => add_operand(marks, bases, wanted, end_of(label), operand, starts),
         None => Ok(()),
     }
 }
@@ -160,15 +182,16 @@ fn end_of(block: BlockId) -> Spot
 fn add_operands(
     marks: &[bool],
     bases: &[Operand],
+    wanted: &[bool],
     spot: Spot,
     operands: &[Operand],
     starts: &mut Vec<Vec<usize>>,
 ) -> Result<(), Memory>
     requires whole { length starts.old.items ≡ length marks.now }
-    ensures { IfOk result (λ _. Grown starts.old.items starts.new.items (λ v. flat_map (adds marks.now bases.now spot v) operands.now)) }
+    ensures { IfOk result (λ _. Grown wanted.now starts.old.items starts.new.items (λ v. flat_map (adds marks.now bases.now spot v) operands.now)) }
 {
     for operand in operands {
-        add_operand(marks, bases, spot, *operand, starts)?;
+        add_operand(marks, bases, wanted, spot, *operand, starts)?;
     }
     Ok(())
 }
@@ -176,15 +199,16 @@ fn add_operands(
 fn add_bundle(
     marks: &[bool],
     bases: &[Operand],
+    wanted: &[bool],
     spot: Spot,
     bundle: &[(Ty, Operand)],
     starts: &mut Vec<Vec<usize>>,
 ) -> Result<(), Memory>
     requires whole { length starts.old.items ≡ length marks.now }
-    ensures { IfOk result (λ _. Grown starts.old.items starts.new.items (λ v. flat_map (λ entry. adds marks.now bases.now spot v entry.1) bundle.now)) }
+    ensures { IfOk result (λ _. Grown wanted.now starts.old.items starts.new.items (λ v. flat_map (λ entry. adds marks.now bases.now spot v entry.1) bundle.now)) }
 {
     for (_, operand) in bundle {
-        add_operand(marks, bases, spot, *operand, starts)?;
+        add_operand(marks, bases, wanted, spot, *operand, starts)?;
     }
     Ok(())
 }
@@ -192,31 +216,36 @@ fn add_bundle(
 fn add_operand(
     marks: &[bool],
     bases: &[Operand],
+    wanted: &[bool],
     spot: Spot,
     operand: Operand,
     starts: &mut Vec<Vec<usize>>,
 ) -> Result<(), Memory>
     requires whole { length starts.old.items ≡ length marks.now }
-    ensures { IfOk result (λ _. Grown starts.old.items starts.new.items (λ v. adds marks.now bases.now spot v operand)) }
+    ensures { IfOk result (λ _. Grown wanted.now starts.old.items starts.new.items (λ v. adds marks.now bases.now spot v operand)) }
 {
     let used = uses_of(marks, bases, operand);
-    add_use(marks, spot, used.itself, starts)?;
-    add_use(marks, spot, used.base, starts)
+    add_use(marks, wanted, spot, used.itself, starts)?;
+    add_use(marks, wanted, spot, used.base, starts)
 }
 
 fn add_use(
     marks: &[bool],
+    wanted: &[bool],
     spot: Spot,
     value: Option<ValueId>,
     starts: &mut Vec<Vec<usize>>,
 ) -> Result<(), Memory>
     requires whole { length starts.old.items ≡ length marks.now }
-    ensures { IfOk result (λ _. Grown starts.old.items starts.new.items (λ v. use_adds marks.now spot value v)) }
+    ensures { IfOk result (λ _. Grown wanted.now starts.old.items starts.new.items (λ v. use_adds marks.now spot value v)) }
 {
     let Some(value) = value else {
         return Ok(());
     };
     let number = value.0 as usize;
+    if !is_marked(wanted, number) {
+        return Ok(());
+    }
     if number < marks.len() && marks[number] && !is_given(spot, number) {
         add_to(starts, number, spot.node)?;
     }

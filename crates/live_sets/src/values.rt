@@ -98,3 +98,10 @@ fn keep(marks: &[bool], number: usize, values: &mut Vec<ValueId>) -> Result<(), 
     }
     Ok(())
 }
+
+/// Whether a value is marked.
+pub(crate) fn is_marked(marks: &[bool], number: usize) -> bool
+    ensures { result ≡ has_mark marks.now number }
+{
+    marks.get(number).copied().unwrap_or(false)
+}

@@ -3,4 +3,4 @@
 
 mod search;
 
-pub use search::reached;
+pub use search::find_reached;

@@ -6,31 +6,31 @@ ghost use Rattle.shared_search.specs.Lists.{ListsReached};
 ghost use Rattle.shared_search.specs.Searches.{Finds, FindsAll};
 
 use graph_search::Edges;
-use std::alloc::{AllocError, Global};
+use std::alloc::AllocError;
 
-/// The nodes that paths along edges lead to from the starts, each once. It takes a mark for each node, none of them set, and leaves
-/// none of them set.
-pub fn reached<E: Edges>(
-    alloc: Global,
+/// Finds the nodes that paths along edges lead to from the starts, each once, in place of those that stood there. It takes a mark for each
+/// node, none of them set, and leaves none of them set.
+pub fn find_reached<E: Edges>(
     edges: &E,
     starts: &[usize],
     marks: &mut Vec<bool>,
-) -> Result<Vec<usize>, AllocError>
+    found: &mut Vec<usize>,
+) -> Result<(), AllocError>
     requires inside { AreInside (E.rows edges.now) starts.now }
     requires clear { marks.old.items ≡ replicate (length (E.rows edges.now)) false }
     ensures clear { IfOk result (λ _. marks.new.items ≡ marks.old.items) }
-    ensures found { IfOk result (λ found. ListsReached (E.rows edges.now) starts.now found.items) }
+    ensures found { IfOk result (λ _. ListsReached (E.rows edges.now) starts.now found.new.items) }
 {
-    let mut found = Vec::new(alloc);
-    find_all(starts, marks, &mut found)?;
+    found.clear();
+    find_all(starts, marks, found)?;
     let mut done = 0;
     while done < found.len() {
         let node = found[done];
-        follow(edges, node, marks, &mut found)?;
+        follow(edges, node, marks, found)?;
         done += 1;
     }
     clear(found.as_slice(), marks);
-    Ok(found)
+    Ok(())
 }
 
 // Lists a node and marks it, where it has no mark.

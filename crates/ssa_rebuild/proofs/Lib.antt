@@ -12,6 +12,7 @@ pub mod LengthLaws
 pub mod CountLaws
 pub mod MarkLemmas
 pub mod WrittenLemmas
+pub mod StandingLaws
 pub mod FilledLaws
 pub mod EndLemmas
 pub mod TakeLemmas

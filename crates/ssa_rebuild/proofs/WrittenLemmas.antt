@@ -1,5 +1,10 @@
 -- Lines over a stream of numbers, one at a time.
-use Rattle.std.proofs.Common.{◌≡◌, ◌∙◌, ℕ, suc, ◌+◌, List, [], ◌∷◌, ◌++◌, length, refl, ap, sym, arith, append_assoc}
+use Rattle.std.proofs.Common.{◌≡◌, ◌∙◌, ℕ, suc, ◌+◌, Bool, true, false, ◌||◌, List, [], ◌∷◌, ◌++◌, length, take, drop, set, Some, slice_get, refl, ap, sym, arith, append_assoc}
+use Rattle.std.specs.List.{list_any}
+use Rattle.std.proofs.lemmas.Bool.{true≢false}
+use Rattle.std.proofs.lemmas.List.{take_more_set, drop-set-lt}
+use Rattle.std.proofs.lemmas.Option.{slice_get_within}
+use Rattle.list_laws.proofs.Places.{drop_at}
 use Rattle.ir_ast.specs.declared.types.Ty.{Ty}
 use Rattle.ir_ast.specs.declared.ops.Operand.{Operand}
 use Rattle.ir_ast.specs.Insts.{Instruction}
@@ -8,10 +13,11 @@ use Rattle.std.specs.Global.{Vec}
 use Rattle.version_walk.specs.declared.slots.Slot.{Slot}
 use Rattle.sp_ids.specs.declared.ids.BlockId.{BlockId}
 use Rattle.sp_ids.specs.declared.ids.ValueId.{ValueId}
+use Rattle.rewriting_forms.specs.Numbered.{is_call}
 use Rattle.statepoint_insert.specs.Groups.{GroupContent}
 use Rattle.ssa_rebuild.specs.declared.writing.Writing.{Writing}
 use Rattle.ssa_rebuild.specs.Rows.{held_in}
-use Rattle.ssa_rebuild.specs.Written.{put, put_left, filled, filled_bundle, left, line_written, after, written, behind, phi_line, phi_after, phi_lines, phis_behind, block_lines, block_after, blocks_written}
+use Rattle.ssa_rebuild.specs.Written.{put, put_left, filled, filled_bundle, left, plain_written, line_written, after, kept_after, written, behind, phi_line, phi_after, phi_lines, phis_behind, block_lines, block_after, blocks_written}
 
 -- ---- operands
 
@@ -48,6 +54,54 @@ pub behind_push : (groups : List GroupContent) (writing : Writing) (insts : List
     → behind groups writing (insts ++ inst ∷ []) ≡ after groups (behind groups writing insts) inst
 behind_push groups writing [] inst = refl
 behind_push groups writing (x ∷ insts) inst = behind_push groups (after groups writing x) insts inst
+
+-- one line more is kept
+pub kept_more : (groups : List GroupContent) (writing later : Writing) (all insts : List Instruction) (i : ℕ) (inst new : Instruction)
+    → slice_get insts i ≡ Some inst → is_call inst.op ≡ false → new ≡ plain_written writing.body writing.entries inst → later ≡ kept_after writing inst
+    → all ≡ take i insts ++ written groups writing (drop i insts)
+    → all ≡ take (i + 1) (set insts i new) ++ written groups later (drop (i + 1) (set insts i new))
+kept_more groups writing later all insts i inst new stands kept new_is later_is is =
+    let below = slice_get_within insts i inst stands in
+    let here : written groups writing (drop i insts) ≡ new ∷ written groups later (drop (i + 1) insts) =
+    ap (written groups writing) (drop_at insts i inst stands) ∙ rw (kept, new_is, later_is) refl in
+    let front = take_more_set insts i new below in
+    let back = drop-set-lt (i + 1) insts i new (omega arith) in
+    is ∙ ap (λ (ls : List Instruction). take i insts ++ ls) here
+    ∙ sym (append_assoc (take i insts) (new ∷ []) (written groups later (drop (i + 1) insts)))
+    ∙ sym (ap (λ (ls : List Instruction). ls ++ written groups later (drop (i + 1) insts)) front)
+    ∙ sym (ap (λ (ls : List Instruction). take (i + 1) (set insts i new) ++ written groups later ls) back)
+
+after_kept : (groups : List GroupContent) (writing : Writing) (inst : Instruction) → is_call inst.op ≡ false → after groups writing inst ≡ kept_after writing inst
+after_kept groups writing inst kept = rw kept refl
+
+pub behind_more : (groups : List GroupContent) (writing later all : Writing) (insts : List Instruction) (i : ℕ) (inst new : Instruction)
+    → slice_get insts i ≡ Some inst → is_call inst.op ≡ false → later ≡ kept_after writing inst
+    → all ≡ behind groups writing (drop i insts)
+    → all ≡ behind groups later (drop (i + 1) (set insts i new))
+behind_more groups writing later all insts i inst new stands kept later_is is =
+    let here : behind groups writing (drop i insts) ≡ behind groups later (drop (i + 1) insts) =
+    ap (behind groups writing) (drop_at insts i inst stands)
+    ∙ ap (λ (w : Writing). behind groups w (drop (i + 1) insts)) (after_kept groups writing inst kept ∙ sym later_is) in
+    is ∙ here ∙ sym (ap (behind groups later) (drop-set-lt (i + 1) insts i new (omega arith)))
+
+-- without calls the next line is no call, and so are those behind it
+pub next_kept : (insts : List Instruction) (i : ℕ) (inst : Instruction) → slice_get insts i ≡ Some inst → list_any (λ (inst : Instruction). is_call inst.op) (drop i insts) ≡ false
+    → is_call inst.op ≡ false
+next_kept insts i inst stands none = first (is_call inst.op) _ (sym (ap (list_any (λ (inst : Instruction). is_call inst.op)) (drop_at insts i inst stands)) ∙ none)
+  where
+    first : (t u : Bool) → (t || u) ≡ false → t ≡ false
+    first true u is = is
+    first false u is = refl
+
+pub rest_kept : (insts : List Instruction) (i : ℕ) (inst new : Instruction) → slice_get insts i ≡ Some inst → list_any (λ (inst : Instruction). is_call inst.op) (drop i insts) ≡ false
+    → list_any (λ (inst : Instruction). is_call inst.op) (drop (i + 1) (set insts i new)) ≡ false
+rest_kept insts i inst new stands none =
+    ap (list_any (λ (inst : Instruction). is_call inst.op)) (drop-set-lt (i + 1) insts i new (omega arith))
+    ∙ other (is_call inst.op) _ (sym (ap (list_any (λ (inst : Instruction). is_call inst.op)) (drop_at insts i inst stands)) ∙ none)
+  where
+    other : (t u : Bool) → (t || u) ≡ false → u ≡ false
+    other true u is = absurd (true≢false is)
+    other false u is = is
 
 pub written_push : (groups : List GroupContent) (writing : Writing) (insts : List Instruction) (inst : Instruction)
     → written groups writing (insts ++ inst ∷ []) ≡ written groups writing insts ++ line_written groups (behind groups writing insts) inst

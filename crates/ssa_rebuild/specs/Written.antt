@@ -76,6 +76,10 @@ plain_written body entries inst = record inst {
 abbrev pub plain_left : List ℕ → Instruction → List ℕ
 plain_left body inst = drop (results_in inst.result) (left (left body (own_uses inst)) (held_in inst.bundle))
 
+-- the line over these numbers, but for its bundle
+abbrev pub with_filled : List ℕ → Instruction → Instruction
+with_filled numbers inst = record inst { operands = filled numbers inst.operands }
+
 -- ---- a call
 
 -- the numbers from the token on, behind the operands, so many "gc-live" entries, and the bundle
@@ -113,13 +117,16 @@ line_written groups writing inst =
     if is_call inst.op then call_written writing.counts (group_at groups writing.counts) writing.body inst inst.op
     else plain_written writing.body writing.entries inst ∷ []
 
+abbrev pub kept_after : Writing → Instruction → Writing
+kept_after writing inst = record writing { body = plain_left writing.body inst; entries = entries_left writing.entries inst }
+
 abbrev pub after : List GroupContent → Writing → Instruction → Writing
 after groups writing inst =
     if is_call inst.op then record writing {
       counts = counts_with writing.counts (length (group_at groups writing.counts).relocates);
       body = call_left (length (group_at groups writing.counts).relocates) writing.body inst;
     }
-    else record writing { body = plain_left writing.body inst; entries = entries_left writing.entries inst }
+    else kept_after writing inst
 
 abbrev pub written : List GroupContent → Writing → List Instruction → List Instruction
 written groups writing [] = []

@@ -48,22 +48,23 @@ fn add_lines(
     rooms: &mut Vec<usize>,
 ) -> usize {
     let mut call = start;
+    let mut room = insts.len();
     for inst in insts {
-        grow(rooms, block, inst.bundle().len());
-        grow(rooms, block, 1);
         if is_phi(inst.op()) {
             for label in inst.labels() {
                 grow(rooms, label.0 as usize, 1);
             }
         } else {
-            grow(rooms, block, inst.operands().len());
+            room = room.saturating_add(inst.operands().len());
         }
+        room = room.saturating_add(inst.bundle().len());
         if is_call(inst.op()) {
             let count = relocates_at(groups, call).len();
-            grow(rooms, block, count.saturating_add(count).saturating_add(1));
+            room = room.saturating_add(count.saturating_add(count).saturating_add(1));
             call = call.saturating_add(1);
         }
     }
+    grow(rooms, block, room);
     call
 }
 

@@ -13,7 +13,7 @@ use crate::rows::{add_all_entries, parents};
 use ir_cfg::Cfg;
 use live_sets::joins;
 use sp_ids::{Memory, ValueId};
-use statepoint_insert::Marked;
+use statepoint_insert::{Group, Marked};
 use std::alloc::Global;
 use version_walk::{Packed, answer_blocks};
 
@@ -49,6 +49,19 @@ pub(crate) fn solve(
     let above = parents(alloc, func, cfg)?;
     let args = func.args().len() as u32;
     let Numbers { starts, own } = Numbers::of(alloc, args, rows.as_slice())?;
-    let answers = answer_blocks(alloc, above.as_slice(), starts.as_slice(), own, rows)?;
+    let room = changes_in(marked.groups(), joins);
+    let answers = answer_blocks(alloc, above.as_slice(), starts.as_slice(), own, rows, room)?;
     Ok(answers)
+}
+
+// How many further definitions there are.
+fn changes_in(groups: &[Group], joins: &[Vec<ValueId>]) -> usize {
+    let mut count = 0_usize;
+    for group in groups {
+        count = count.saturating_add(group.relocates().len());
+    }
+    for join in joins {
+        count = count.saturating_add(join.len());
+    }
+    count
 }

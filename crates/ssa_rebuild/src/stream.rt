@@ -1,6 +1,6 @@
 //! Numbers that are taken one after another.
 
-ghost use Rattle.std.specs.Prelude.{◌≡◌, take, drop, slice_index, map, IfOk};
+ghost use Rattle.std.specs.Prelude.{◌≡◌, ◌++◌, take, drop, slice_index, map, IfOk};
 ghost use Rattle.ssa_rebuild.specs.Answers.{number_of};
 
 use sp_ids::Memory;
@@ -49,26 +49,26 @@ impl<'a> Stream<'a> {
         self.slots = &self.slots[behind..];
     }
 
-    /// Takes so many numbers, or all where fewer are left.
-    pub(crate) fn next_ones(&mut self, alloc: Global, count: usize) -> Result<Vec<u32>, Memory>
-        ensures taken { IfOk result (λ taken. taken.items ≡ take count self.old) }
+    /// Takes so many numbers, or all where fewer are left, in place of those that stood in the list.
+    pub(crate) fn next_ones(&mut self, count: usize, taken: &mut Vec<u32>) -> Result<(), Memory>
+        ensures taken { IfOk result (λ _. taken.new.items ≡ take count self.old) }
         ensures rest { IfOk result (λ _. self.new ≡ drop count self.old) }
     {
         let behind = count.min(self.slots.len());
-        let taken = numbers_of(alloc, &self.slots[..behind])?;
+        taken.clear();
+        push_numbers(&self.slots[..behind], taken)?;
         self.slots = &self.slots[behind..];
-        Ok(taken)
+        Ok(())
     }
 }
 
-fn numbers_of(alloc: Global, slots: &[Packed]) -> Result<Vec<u32>, Memory>
-    ensures { IfOk result (λ numbers. numbers.items ≡ map number_of slots.now) }
+fn push_numbers(slots: &[Packed], numbers: &mut Vec<u32>) -> Result<(), Memory>
+    ensures { IfOk result (λ _. numbers.new.items ≡ numbers.old.items ++ map number_of slots.now) }
 {
-    let mut numbers = Vec::with_capacity(alloc, slots.len())?;
     for slot in slots {
         numbers.push(number_of(slot.slot()))?;
     }
-    Ok(numbers)
+    Ok(())
 }
 
 /// Answered slots of these numbers.

@@ -1,10 +1,13 @@
 //! The lines of the final text.
 
-ghost use Rattle.std.specs.Prelude.{◌≡◌, true, ◌++◌, [], ◌∷◌, ◌+◌, ◌-◌, ◌<◌, ◌^◌, if◌then◌else◌, length, take, decimal, IfOk};
+ghost use Rattle.std.specs.Prelude.{◌≡◌, List, true, false, ◌≤◌, ◌++◌, [], ◌∷◌, ◌+◌, ◌-◌, ◌<◌, ◌^◌, if◌then◌else◌, length, take, drop, decimal, IfOk};
 ghost use Rattle.ir_ast.specs.declared.ops.Op.{Op};
+ghost use Rattle.std.specs.List.{list_any};
+ghost use Rattle.ir_ast.specs.Faults.PhiEdges.{is_phi};
+ghost use Rattle.statepoint_insert.specs.Groups.{GroupContent};
 ghost use Rattle.rewriting_forms.specs.Numbered.{is_call};
 ghost use Rattle.ssa_rebuild.specs.Rows.{own_uses};
-ghost use Rattle.ssa_rebuild.specs.Written.{filled, left, results_in, phi_uses, entries_left, operands_written, plain_written, plain_left, call_written, call_left, group_at, counts_with, line_written, after, written, behind, phi_line, phi_after, phi_lines, phis_behind};
+ghost use Rattle.ssa_rebuild.specs.Written.{filled, left, results_in, phi_uses, entries_left, operands_written, plain_written, plain_left, call_written, call_left, group_at, counts_with, line_written, after, kept_after, with_filled, written, behind, phi_line, phi_after, phi_lines, phis_behind};
 
 use crate::filled::{fill, fill_bundle, values};
 use crate::lines::{is_call, is_phi};
@@ -15,6 +18,7 @@ use smallvec::SmallVec;
 use sp_ids::{BlockId, Memory, ValueId};
 use statepoint_insert::{Call, Counts, Group, push_group};
 use std::alloc::Global;
+use std::mem;
 
 /// What is still to be written: the counts of names, the numbers of the block's slots, and those of all entries of phis.
 #[derive(Drop)]
@@ -31,13 +35,14 @@ pub(crate) fn push_phis(
     preds: &[BlockId],
     values: &[ValueId],
     writing: &mut Writing<'_>,
+    numbers: &mut Vec<u32>,
     lines: &mut Vec<Inst>,
 ) -> Result<(), Memory>
     ensures lines { IfOk result (λ _. lines.new.items ≡ lines.old.items ++ phi_lines preds.now writing.old values.now) }
     ensures writing { IfOk result (λ _. writing.new ≡ phis_behind preds.now writing.old values.now) }
 {
     for _value in values {
-        push_phi(alloc, preds, writing, lines)?;
+        push_phi(alloc, preds, writing, numbers, lines)?;
     }
     Ok(())
 }
@@ -46,6 +51,7 @@ fn push_phi(
     alloc: Global,
     preds: &[BlockId],
     writing: &mut Writing<'_>,
+    numbers: &mut Vec<u32>,
     lines: &mut Vec<Inst>,
 ) -> Result<(), Memory>
     ensures lines { IfOk result (λ _. lines.new.items ≡ lines.old.items ++ phi_line preds.now writing.old ∷ []) }
@@ -54,7 +60,7 @@ fn push_phi(
     if writing.joined == u32::MAX {
         return Err(Memory);
     }
-    let numbers = writing.entries.next_ones(alloc, preds.len())?;
+    writing.entries.next_ones(preds.len(), numbers)?;
     let operands = values(alloc, numbers.as_slice())?;
     let named = name(alloc, b"sp.m", writing.joined)?;
     let labels = SmallVec::from_slice(alloc, preds)?;
@@ -87,13 +93,14 @@ pub(crate) fn push_lines(
     groups: &[Group],
     insts: Vec<Inst>,
     writing: &mut Writing<'_>,
+    numbers: &mut Vec<u32>,
     lines: &mut Vec<Inst>,
 ) -> Result<(), Memory>
     ensures lines { IfOk result (λ _. lines.new.items ≡ lines.old.items ++ written groups.now writing.old insts.items) }
     ensures writing { IfOk result (λ _. writing.new ≡ behind groups.now writing.old insts.items) }
 {
     for inst in insts {
-        push_line(alloc, groups, inst, writing, lines)?;
+        push_line(alloc, groups, inst, writing, numbers, lines)?;
     }
     Ok(())
 }
@@ -103,16 +110,100 @@ fn push_line(
     groups: &[Group],
     inst: Inst,
     writing: &mut Writing<'_>,
+    numbers: &mut Vec<u32>,
     lines: &mut Vec<Inst>,
 ) -> Result<(), Memory>
     ensures lines { IfOk result (λ _. lines.new.items ≡ lines.old.items ++ line_written groups.now writing.old inst) }
     ensures writing { IfOk result (λ _. writing.new ≡ after groups.now writing.old inst) }
 {
     if is_call(inst.op()) {
-        return push_call(alloc, groups, inst, writing, lines);
+        return push_call(alloc, groups, inst, writing, numbers, lines);
     }
-    lines.push(plain(inst, &mut writing.body, &mut writing.entries))?;
+    let mut line = inst;
+    fill_line(alloc, &mut line, writing);
+    lines.push(line)?;
     Ok(())
+}
+
+/// Gives lines without calls their numbers, where they stand.
+pub(crate) fn fill_lines(alloc: Global, lines: &mut [Inst], writing: &mut Writing<'_>)
+    requires { list_any (λ inst. is_call inst.op) lines.old ≡ false }
+    ensures lines { (groups : List GroupContent) → lines.new ≡ written groups writing.old lines.old }
+    ensures writing { (groups : List GroupContent) → writing.new ≡ behind groups writing.old lines.old }
+{
+    for inst in lines.iter_mut() {
+        fill_line(alloc, inst, writing);
+    }
+}
+
+// Gives a line that is kept its numbers, where it stands.
+fn fill_line(alloc: Global, inst: &mut Inst, writing: &mut Writing<'_>)
+    ensures line { inst.new ≡ plain_written writing.old.body writing.old.entries inst.old }
+    ensures writing { writing.new ≡ kept_after writing.old inst.old }
+{
+    if stands(inst) {
+        fill_standing(inst, writing);
+    } else {
+        let old = mem::replace(inst, no_line(alloc));
+        *inst = plain(old, &mut writing.body, &mut writing.entries);
+    }
+}
+
+// Whether only the operands of a line change, and each of them has a number or stays.
+fn stands(inst: &Inst) -> bool
+    ensures bundle { result ≡ true → inst.now.bundle ≡ [] }
+    ensures labels { result ≡ true → is_phi inst.now.op ≡ true → length inst.now.operands ≤ length inst.now.labels }
+{
+    inst.bundle().is_empty() && (!is_phi(inst.op()) || inst.operands().len() <= inst.labels().len())
+}
+
+fn fill_standing(inst: &mut Inst, writing: &mut Writing<'_>)
+    requires bundle { inst.old.bundle ≡ [] }
+    requires labels { is_phi inst.old.op ≡ true → length inst.old.operands ≤ length inst.old.labels }
+    ensures line { inst.new ≡ plain_written writing.old.body writing.old.entries inst.old }
+    ensures writing { writing.new ≡ kept_after writing.old inst.old }
+{
+    if is_phi(inst.op()) {
+        fill_phi(inst, writing);
+    } else {
+        fill_body(inst, writing);
+    }
+}
+
+fn fill_phi(inst: &mut Inst, writing: &mut Writing<'_>)
+    ensures line { inst.new ≡ with_filled writing.old.entries inst.old }
+    ensures writing { writing.new ≡ record writing.old { body = drop (results_in inst.old.result) writing.old.body; entries = left writing.old.entries inst.old.operands } }
+{
+    let results = results_in(inst.result());
+    fill_operands(inst, &mut writing.entries);
+    writing.body.skip(results);
+}
+
+fn fill_body(inst: &mut Inst, writing: &mut Writing<'_>)
+    ensures line { inst.new ≡ with_filled writing.old.body inst.old }
+    ensures writing { writing.new ≡ record writing.old { body = drop (results_in inst.old.result) (left writing.old.body inst.old.operands) } }
+{
+    let results = results_in(inst.result());
+    fill_operands(inst, &mut writing.body);
+    writing.body.skip(results);
+}
+
+fn fill_operands(inst: &mut Inst, numbers: &mut Stream<'_>)
+    ensures line { inst.new ≡ with_filled numbers.old inst.old }
+    ensures rest { numbers.new ≡ left numbers.old inst.old.operands }
+{
+    fill(inst.operands_mut(), numbers);
+}
+
+fn no_line(alloc: Global) -> Inst {
+    Inst::of(
+        None,
+        Op::Unreachable,
+        Ty::Void,
+        SmallVec::new(alloc),
+        SmallVec::new(alloc),
+        Vec::new(alloc),
+    )
 }
 
 fn plain(inst: Inst, body: &mut Stream<'_>, entries: &mut Stream<'_>) -> Inst
@@ -161,6 +252,7 @@ fn push_call(
     groups: &[Group],
     inst: Inst,
     writing: &mut Writing<'_>,
+    numbers: &mut Vec<u32>,
     lines: &mut Vec<Inst>,
 ) -> Result<(), Memory>
     requires { is_call inst.op ≡ true }
@@ -171,7 +263,15 @@ fn push_call(
         None => Err(Memory),
         Some(group) => {
             let counts = counts_with(writing.counts, group.relocates().len())?;
-            write_group(alloc, group, inst, writing.counts, &mut writing.body, lines)?;
+            write_group(
+                alloc,
+                group,
+                inst,
+                writing.counts,
+                &mut writing.body,
+                numbers,
+                lines,
+            )?;
             writing.counts = counts;
             Ok(())
         }
@@ -198,6 +298,7 @@ fn write_group(
     inst: Inst,
     counts: Counts,
     body: &mut Stream<'_>,
+    numbers: &mut Vec<u32>,
     lines: &mut Vec<Inst>,
 ) -> Result<(), Memory>
     requires { counts.relocates + length group.now.relocates < 2 ^ 32 - 1 }
@@ -208,7 +309,7 @@ fn write_group(
     let count = group.relocates().len();
     let results = results_in(&named);
     fill(operands.as_mut_slice(), body);
-    let live = body.next_ones(alloc, count)?;
+    body.next_ones(count, numbers)?;
     fill_bundle(bundle.as_mut_slice(), body);
     let token = body.first();
     body.skip(1);
@@ -223,7 +324,7 @@ fn write_group(
         operands,
         bundle,
     };
-    push_group(alloc, call, group, live.as_slice(), token, counts, lines)
+    push_group(alloc, call, group, numbers.as_slice(), token, counts, lines)
 }
 
 // The callee of a call, and the types of its arguments.

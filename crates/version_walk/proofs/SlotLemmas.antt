@@ -1,5 +1,5 @@
 -- Slots that are answered one after another, and changes that are taken back.
-use Rattle.std.proofs.Common.{◌≡◌, ◌∙◌, ℕ, suc, ◌<◌, ◌≤◌, ◌+◌, ◌-◌, List, [], ◌∷◌, ◌++◌, length, take, drop, set, Option, Some, None, slice_get, refl, ap, sym, arith, append_assoc, append-nil, length-append}
+use Rattle.std.proofs.Common.{◌≡◌, ◌∙◌, ℕ, zero, suc, get_or, ◌<◌, ◌≤◌, ◌+◌, ◌-◌, List, [], ◌∷◌, ◌++◌, length, take, drop, set, Option, Some, None, slice_get, refl, ap, sym, arith, append_assoc, append-nil, length-append}
 use Rattle.std.specs.Option.{option_to_list}
 use Rattle.std.proofs.lemmas.List.{take_more_set, drop-set-lt, drop-append-le, take-append-le, take-append-drop, length-take-le, drop_all}
 use Rattle.std.proofs.lemmas.Option.{slice_get_within}
@@ -99,6 +99,12 @@ logged_more old between new first second = record {
   log = second.log ∙ ap (λ (log : List Change). log ++ second.changes) first.log ∙ append_assoc old.log.items first.changes second.changes;
   back = back_append first.changes second.changes new.current.items ∙ ap (taken_back first.changes) second.back ∙ first.back;
 }
+
+-- a number that stands there already changes nothing
+pub set_same : (xs : List ℕ) (place number : ℕ) → get_or xs place 0 ≡ number → xs ≡ set xs place number
+set_same [] place number is = refl
+set_same (x ∷ xs) zero number is = ap (λ (y : ℕ). y ∷ xs) is
+set_same (x ∷ xs) (suc place) number is = ap (λ (ys : List ℕ). x ∷ ys) (set_same xs place number is)
 
 -- ---- the last change taken back
 

@@ -64,6 +64,9 @@ impl Versions {
     {
         let place = value.0 as usize;
         let before = at(self.current.as_slice(), place);
+        if before == number {
+            return Ok(());
+        }
         self.log.push(Change {
             value,
             number: before,

@@ -6,7 +6,7 @@ ghost use Rattle.version_walk.specs.Walks.{HasRoom, IsSized, KeepsWalk, AreAnswe
 
 use crate::forest::Forest;
 use crate::lists::at;
-use crate::slots::{Packed, Slot};
+use crate::slots::Packed;
 use crate::versions::Versions;
 use sp_ids::Memory;
 use std::alloc::Global;
@@ -28,12 +28,14 @@ pub(crate) struct Walk {
 
 /// The slots of all blocks, answered: a block without an only predecessor begins with the numbers `own`, another one with
 /// those at the end of its only predecessor. The first definition of each block has the number that `starts` gives it.
+/// There is room for so many changes from the start.
 pub fn answer_blocks(
     alloc: Global,
     parents: &[Option<usize>],
     starts: &[u32],
     own: Vec<u32>,
     rows: Vec<Vec<Packed>>,
+    room: usize,
 ) -> Result<Vec<Vec<Packed>>, Memory>
     requires inside { AreInside parents.now }
     requires whole { length rows.items ≡ length parents.now }
@@ -41,7 +43,7 @@ pub fn answer_blocks(
     ensures { IfOk result (λ answers. AreAnswered parents.now (record { starts = starts.now; own = own.items; rows = rows.items }) answers.items) }
 {
     let forest = Forest::of(alloc, parents)?;
-    let log = Vec::with_capacity(alloc, room_for(rows.as_slice()))?;
+    let log = Vec::with_capacity(alloc, room)?;
     let mut walk = Walk {
         versions: Versions { current: own, log },
         rows,
@@ -53,29 +55,6 @@ pub fn answer_blocks(
         walk.turn(&forest, starts)?;
     }
     Ok(walk.rows)
-}
-
-// Room for the changes of all definitions.
-fn room_for(rows: &[Vec<Packed>]) -> usize {
-    let mut room = 0_usize;
-    for row in rows {
-        room = room.saturating_add(changes_in(row.as_slice()));
-    }
-    room
-}
-
-fn changes_in(row: &[Packed]) -> usize {
-    let mut count = 0;
-    for slot in row {
-        if is_change(slot.slot()) {
-            count += 1;
-        }
-    }
-    count
-}
-
-fn is_change(slot: Slot) -> bool {
-    matches!(slot, Slot::Own(_) | Slot::Give(_))
 }
 
 fn no_marks(alloc: Global, count: usize) -> Result<Vec<bool>, Memory>

@@ -1,5 +1,6 @@
-use Rattle.std.proofs.Common.{◌≡◌, ℕ, ◌<◌, ◌++◌, if◌then◌else◌, ◌∷◌, [], length, take}
+use Rattle.std.proofs.Common.{◌≡◌, ℕ, ◌<◌, ◌++◌, ◌&&◌, if◌then◌else◌, ◌∷◌, [], length, take}
 use Rattle.rewriting_forms.specs.Numbered.{among}
+use Rattle.live_sets.specs.Values.{has_mark}
 use Rattle.live_sets.specs.Starts.{list_at}
 use Rattle.live_sets.proofs.ends.add_ends.Given as goal
 
@@ -7,5 +8,5 @@ abbrev pub invariant-loop-node : goal.invariant-loop-node
 invariant-loop-node l = record {
   whole : length l.ends.items ≡ length l.initial.ends.items;
   each : (b : ℕ) → b < length l.initial.ends.items
-      → list_at l.ends.items b ≡ list_at l.initial.ends.items b ++ (if among b (take l.node-index l.node-items) then l.value ∷ [] else []);
+      → list_at l.ends.items b ≡ list_at l.initial.ends.items b ++ (if has_mark l.wanted b && among b (take l.node-index l.node-items) then l.value ∷ [] else []);
 }

@@ -1,11 +1,9 @@
 use Rattle.std.proofs.Common.{◌≡◌, ◌∙◌, ◌-◌, suc, ap, sym, arith, length, take, ℕ, List, Some, slice_get, subst}
-use Rattle.std.specs.List.{list_any}
 use Rattle.std.specs.Option.{option_map}
 use Rattle.ir_ast.specs.Insts.{Instruction}
 use Rattle.ir_ast.specs.Blocks.{BasicBlock}
 use Rattle.ir_ast.specs.Funcs.{instructions_of}
 use Rattle.object_meaning.specs.Lines.{after_all, numbered, insts_in}
-use Rattle.rewriting_forms.specs.Numbered.{is_call}
 use Rattle.live_sets.specs.Values.{valued}
 use Rattle.live_sets.specs.Starts.{first_of}
 use Rattle.live_sets.specs.Lists.{AtPlace}
@@ -16,10 +14,7 @@ use Rattle.live_sets.proofs.lists.add_block.Goals as goal
 
 pub returns-then-not-has_call : goal.returns-then-not-has_call
 returns-then-not-has_call c =
-    let func = c.args.func.now.content in
-    let insts = read_insts func c.args.number c.blocks-2.result.now c.index-blocks-number.result c.insts-insts.result.now c.blocks-2.ensures.value c.requires.number c.index-blocks-number.is c.insts-insts.ensures.value in
-    nothing_added func c.args.bases.now c.args.marks.now c.requires.marks c.args.number c.args.lists.now.items
-    (ap (list_any (λ (inst : Instruction). is_call inst.op)) insts ∙ sym c.has_call.ensures ∙ c.if-not-has_call.true)
+    nothing_added c.args.func.now.content c.args.bases.now c.args.marks.now c.requires.marks c.args.number c.args.lists.now.items (sym c.requires.calls ∙ c.if-not-has_call.true)
 
 pub after-next-requires : goal.after-next-requires
 after-next-requires c =
@@ -41,7 +36,7 @@ loop-place-init c =
       within = omega arith;
       next = c.after-next.ensures ∙ sym (ap (after_all c.args.first) (taken_whole c.insts-insts.result.now));
       at = subst (λ (is : List Instruction). AtPlace func c.args.bases.now c.args.marks.now c.args.number (length is) c.fill.new.set c.args.lists.now.items c.args.lists.now.items) insts
-          (begun func c.args.bases.now c.args.marks.now c.requires.marks c.args.number c.args.ends.now c.fill.new.set c.args.lists.now.items c.requires.ends c.in_ok-fill.ensures);
+          (begun func c.args.bases.now c.args.marks.now c.requires.marks c.args.number c.args.ends.now c.fill.new.set c.args.lists.now.items (c.requires.ends c.if-not-has_call.false) c.in_ok-fill.ensures);
     }
 
 pub before-next-requires : goal.before-next-requires

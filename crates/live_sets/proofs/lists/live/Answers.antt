@@ -1,30 +1,16 @@
-use Rattle.std.proofs.Common.{◌≡◌, ◌∙◌, ◌<◌, ◌-◌, suc, ap, sym, arith, length, ℕ, List, map, slice_get}
+use Rattle.std.proofs.Common.{◌≡◌, ◌∙◌, ◌<◌, ◌-◌, suc, Bool, ap, sym, arith, length, ℕ, List, map, slice_get}
 use Rattle.std.specs.Prelude.{reverse}
 use Rattle.std.specs.List.{range_with_len, flat_map}
-use Rattle.std.proofs.lemmas.List.{length-map}
 use Rattle.std.proofs.lemmas.Option.{get_or_from_slice_get}
-use Rattle.ir_ast.specs.Types.{is_pointer}
-use Rattle.ir_ast.specs.Values.{value_types}
 use Rattle.object_meaning.specs.Lines.{registers_of}
 use Rattle.rewriting_forms.specs.Numbered.{lines_at}
 use Rattle.rewriting_forms.specs.Liveness.{lists_from, live_lists}
-use Rattle.live_sets.specs.Values.{valued}
+use Rattle.live_sets.specs.Values.{has_mark, valued}
 use Rattle.live_sets.proofs.NumberLemmas.{get_read, firsts_length}
 use Rattle.live_sets.proofs.StartLemmas.{list_is}
 use Rattle.live_sets.proofs.ListLaws.{blocks_back}
-use Rattle.live_sets.proofs.WholeLaws.{few_values, values_are, whole}
+use Rattle.live_sets.proofs.WholeLaws.{calling_at, whole}
 use Rattle.live_sets.proofs.lists.live.Goals as goal
-
-pub marked-requires : goal.marked-requires
-marked-requires c =
-    let func = c.args.func.now.content in
-    let few = few_values func in
-    let long = ap length (c.as_slice.ensures.value ∙ c.in_ok-marks.ensures) ∙ length-map (value_types func) is_pointer in
-    omega (arith, few, long, c.blocks-number.ensures.small.few_arguments, c.blocks-number.ensures.small.few_instructions)
-
-pub ends-requires-clause-values : goal.ends-requires-clause-values
-ends-requires-clause-values c =
-    c.as_slice-6.ensures.value ∙ c.in_ok-values.ensures ∙ values_are c.args.func.now.content c.as_slice.result.now (c.as_slice.ensures.value ∙ c.in_ok-marks.ensures)
 
 pub index-requires : goal.index-requires
 index-requires c =
@@ -41,14 +27,21 @@ add_block-requires-clause-first c =
     (ap (λ (ns : List ℕ). slice_get ns n) (sym c.in_ok-firsts.ensures)
     ∙ get_read c.in_ok-firsts.firsts.items n c.index.result.now (omega (arith, long, c.loop-number.invariant.within, c.loop-number-test.true)) c.index.ensures))
 
+pub add_block-requires-clause-calls : goal.add_block-requires-clause-calls
+add_block-requires-clause-calls c =
+    let func = c.args.func.now.content in
+    let n = c.loop-number.number - 1 in
+    c.is_marked-has_call.ensures ∙ ap (λ (marks : List Bool). has_mark marks n) (c.as_slice-in-loop-number.ensures.value ∙ c.in_ok-calling.ensures) ∙ calling_at func n
+
 pub add_block-requires-clause-ends : goal.add_block-requires-clause-ends
-add_block-requires-clause-ends c =
+add_block-requires-clause-ends c = λ is. (
     let func = c.args.func.now.content in
     let n = c.loop-number.number - 1 in
     let below : n < length func.blocks = omega (arith, c.loop-number.invariant.within, c.loop-number-test.true) in
-    c.as_slice-in-loop-number-2.ensures.value
+    let wanted = ap (λ (marks : List Bool). has_mark marks n) (c.as_slice-3.ensures.value ∙ sym c.as_slice-in-loop-number.ensures.value) ∙ sym c.is_marked-has_call.ensures ∙ is in
+    c.as_slice-in-loop-number-3.ensures.value
     ∙ sym (list_is c.in_ok-ends.ends.items n c.index-in-loop-number.result.now (let w = c.in_ok-ends.ensures.whole in omega (arith, w, below)) c.index-in-loop-number.ensures)
-    ∙ c.in_ok-ends.ensures.each n below
+    ∙ c.in_ok-ends.ensures.each n below wanted)
 
 pub loop-number-preserved : goal.loop-number-preserved
 loop-number-preserved c =

@@ -1,17 +1,13 @@
 use Rattle.std.proofs.Common.{◌≡◌, ℕ, ◌<◌, ◌+◌, length, map, filter, take, replicate, false}
-use Rattle.object_meaning.specs.Lines.{registers_of}
 use Rattle.rewriting_forms.specs.Numbered.{pointers}
 use Rattle.rewriting_forms.specs.Names.{joins_of}
 use Rattle.live_sets.specs.Values.{valued}
 use Rattle.live_sets.specs.Starts.{list_at}
-use Rattle.live_sets.specs.Ends.{numbers_of, AreFronts}
 use Rattle.live_sets.proofs.phis.all_joins.Given as goal
 
 abbrev pub invariant-loop-value : goal.invariant-loop-value
 invariant-loop-value l = record {
-  fronts : AreFronts l.func.content (numbers_of l.places.fronts.items);
-  firsts : l.places.firsts.items ≡ registers_of l.func.content;
-  clear : l.seen.items ≡ replicate (length l.places.fronts.items + length l.places.fronts.items) false;
+  clear : l.seen.items ≡ replicate (l.count + l.count) false;
   whole : length l.joins.items ≡ length l.func.content.blocks;
   each : (b : ℕ) → b < length l.func.content.blocks
       → list_at l.joins.items b ≡ map valued (filter (joins_of l.func.content l.bases b) (take l.value-index (pointers l.func.content)));

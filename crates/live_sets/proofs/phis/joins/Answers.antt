@@ -16,7 +16,7 @@ marked-requires c =
 
 pub all_joins-requires-clause-values : goal.all_joins-requires-clause-values
 all_joins-requires-clause-values c =
-    c.as_slice-5.ensures.value ∙ c.in_ok-values.ensures ∙ values_are c.args.func.now.content c.as_slice.result.now (c.as_slice.ensures.value ∙ c.in_ok-marks.ensures)
+    c.as_slice-6.ensures.value ∙ c.in_ok-values.ensures ∙ values_are c.args.func.now.content c.as_slice.result.now (c.as_slice.ensures.value ∙ c.in_ok-marks.ensures)
 
 pub returns-then-not-has_join : goal.returns-then-not-has_join
 returns-then-not-has_join c =

@@ -16,7 +16,7 @@ loop-inst-preserved c =
     let step = c.following-next.ensures in
     let one = following_small c.loop-inst.next inst in
     record {
-      grown = grown_both c.args.starts.now.items c.loop-inst.starts.items c.add_line.new.starts.items (λ (v : ℕ). block_adds marks bases c.args.node c.args.first c.args.first v (take at insts))
+      grown = grown_both c.args.wanted.now c.args.starts.now.items c.loop-inst.starts.items c.add_line.new.starts.items (λ (v : ℕ). block_adds marks bases c.args.node c.args.first c.args.first v (take at insts))
           (λ (v : ℕ). line_adds marks bases (record { node = c.args.node; first = c.args.first; next = c.loop-inst.next }) v inst) _ c.loop-inst.invariant.grown c.in_ok-add_line.ensures
           (λ v. ap (block_adds marks bases c.args.node c.args.first c.args.first v) more ∙ block_adds_push marks bases c.args.node c.args.first c.args.first v (take at insts) inst
           ∙ ap (λ (n : ℕ). block_adds marks bases c.args.node c.args.first c.args.first v (take at insts) ++ line_adds marks bases (record { node = c.args.node; first = c.args.first; next = n }) v inst) (sym c.loop-inst.invariant.next));

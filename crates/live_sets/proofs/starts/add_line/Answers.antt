@@ -14,9 +14,9 @@ returns c =
     let spot = c.args.spot in
     let inst = c.args.inst.now in
     IfOk-weaker c.add_bundle.result
-    (λ _. Grown c.add_own.new.starts.items c.add_bundle.new.starts.items (λ (v : ℕ). flat_map (λ (entry : Ty × Operand). adds marks bases spot v entry.1) c.bundle.result.now))
-    (λ _. Grown c.args.starts.now.items c.add_bundle.new.starts.items (λ (v : ℕ). line_adds marks bases spot v inst))
-    (λ _ second. grown_both c.args.starts.now.items c.add_own.new.starts.items c.add_bundle.new.starts.items (λ (v : ℕ). own_adds marks bases spot v inst)
+    (λ _. Grown c.args.wanted.now c.add_own.new.starts.items c.add_bundle.new.starts.items (λ (v : ℕ). flat_map (λ (entry : Ty × Operand). adds marks bases spot v entry.1) c.bundle.result.now))
+    (λ _. Grown c.args.wanted.now c.args.starts.now.items c.add_bundle.new.starts.items (λ (v : ℕ). line_adds marks bases spot v inst))
+    (λ _ second. grown_both c.args.wanted.now c.args.starts.now.items c.add_own.new.starts.items c.add_bundle.new.starts.items (λ (v : ℕ). own_adds marks bases spot v inst)
     (λ (v : ℕ). flat_map (λ (entry : Ty × Operand). adds marks bases spot v entry.1) c.bundle.result.now) (λ (v : ℕ). line_adds marks bases spot v inst)
     c.in_ok-add_own.ensures second
     (λ v. ap (λ (es : List (Ty × Operand)). own_adds marks bases spot v inst ++ flat_map (λ (entry : Ty × Operand). adds marks bases spot v entry.1) es) (sym c.bundle.ensures)))

@@ -4,4 +4,4 @@ use Rattle.live_sets.specs.Starts.{Grown, adds}
 use Rattle.live_sets.proofs.starts.add_operands.Given as goal
 
 abbrev pub invariant-loop-operand : goal.invariant-loop-operand
-invariant-loop-operand l = Grown l.initial.starts.items l.starts.items (λ v. flat_map (adds l.marks l.bases l.spot v) (take l.operand-index l.operands))
+invariant-loop-operand l = Grown l.wanted l.initial.starts.items l.starts.items (λ v. flat_map (adds l.marks l.bases l.spot v) (take l.operand-index l.operands))

@@ -37,9 +37,9 @@ loop-number-preserved c =
     ap (λ (bs : List BasicBlock). slice_get bs number) (sym c.blocks-block-items.ensures.value) ∙ get_read blocks number c.block-item.result c.loop-number-test.true c.block-item.is in
     record {
       whole = c.in_ok-add_block.ensures.whole ∙ c.loop-number.invariant.whole;
-      each = λ v below.
-          c.in_ok-add_block.ensures.each v (let same = c.loop-number.invariant.whole in omega (arith, same, below))
-          ∙ ap (λ (xs : List ℕ). xs ++ block_adds marks bases (length c.blocks-count.result.now + number) (get_or c.args.firsts.now number 0) (get_or c.args.firsts.now number 0) v c.insts.result.now) (c.loop-number.invariant.each v below)
+      each = λ v below is.
+          c.in_ok-add_block.ensures.each v (let same = c.loop-number.invariant.whole in omega (arith, same, below)) is
+          ∙ ap (λ (xs : List ℕ). xs ++ block_adds marks bases (length c.blocks-count.result.now + number) (get_or c.args.firsts.now number 0) (get_or c.args.firsts.now number 0) v c.insts.result.now) (c.loop-number.invariant.each v below is)
           ∙ ap (λ (xs : List ℕ). flat_map (starts_in func marks bases v) (range_with_len 0 number) ++ xs)
           (block_starts func marks bases v number (length c.blocks-count.result.now) (get_or c.args.firsts.now number 0) c.block-item.result c.insts.result.now (ap length c.blocks-count.ensures.value)
           (ap (λ (ns : List ℕ). get_or ns number 0) c.requires.firsts) stands c.insts.ensures.value)

@@ -3,5 +3,5 @@ use Rattle.ssa_rebuild.proofs.blocks.one_block.Goals as goal
 
 pub of-requires : goal.of-requires
 of-requires c =
-    rw (c.in_ok-push_lines.ensures.lines, c.in_ok-push_phis.ensures.lines, c.in_ok-lines.ensures.items)
+    rw c.in_ok-lines.ensures.lines
     (ends_written _ _ _ _ _ _ (rw c.into_parts-name.ensures.insts c.into_parts-name.ensures.ends))

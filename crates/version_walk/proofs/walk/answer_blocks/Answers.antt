@@ -15,8 +15,8 @@ loop-walk-init c = record {
   };
   walk = walk_start c.args.parents.now _ c.in_ok-forest.forest.roots.items _ c.await_all.new.pending.items c.in_ok-log.log.items c.in_ok-no_marks.field-0.items
       c.in_ok-forest.ensures.forest.roots c.in_ok-log.ensures.items c.in_ok-no_marks.ensures
-      (c.in_ok-await_all.ensures ∙ ap (λ (ps : List Pending). ps ++ map (awaiting 0) c.as_slice-2.result.now) c.new.ensures.items
-      ∙ ap (map (awaiting 0)) c.as_slice-2.ensures.value);
+      (c.in_ok-await_all.ensures ∙ ap (λ (ps : List Pending). ps ++ map (awaiting 0) c.as_slice.result.now) c.new.ensures.items
+      ∙ ap (map (awaiting 0)) c.as_slice.ensures.value);
 }
 
 pub loop-walk-preserved : goal.loop-walk-preserved

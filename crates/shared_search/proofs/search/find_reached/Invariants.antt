@@ -2,7 +2,7 @@ use Rattle.std.proofs.Common.{◌≡◌, ◌+◌, ◌-◌, length, not}
 use Rattle.std.specs.List.{count_by}
 use Rattle.shared_search.specs.Searches.{IsSearch}
 use Rattle.shared_search.proofs.SearchLemmas.{IsFollowed}
-use Rattle.shared_search.proofs.search.reached.Given as goal
+use Rattle.shared_search.proofs.search.find_reached.Given as goal
 
 abbrev pub invariant-loop-done : goal.invariant-loop-done
 invariant-loop-done g l = record {

@@ -3,7 +3,7 @@ use Rattle.std.proofs.lemmas.List.{length-replicate}
 use Rattle.std.proofs.lemmas.Option.{slice_get_read, slice_get_within}
 use Rattle.shared_search.specs.Searches.{FindsAll}
 use Rattle.shared_search.proofs.SearchLemmas.{starts_inside, targets_inside, search_start, search_more, followed_none, followed_more, lists_reached, found_inside}
-use Rattle.shared_search.proofs.search.reached.Goals as goal
+use Rattle.shared_search.proofs.search.find_reached.Goals as goal
 
 pub find_all-requires : goal.find_all-requires
 find_all-requires g c =
@@ -14,7 +14,7 @@ pub loop-done-init : goal.loop-done-init
 loop-done-init g c = record {
   whole = refl;
   search = search_start (g.E.Edges.rows c.args.edges.now) c.args.starts.now c.args.marks.now.items c.find_all.new.marks.items c.find_all.new.found.items
-      c.requires.clear (subst (λ (f : List ℕ). FindsAll c.args.starts.now c.args.marks.now.items c.find_all.new.marks.items f c.find_all.new.found.items) c.new-found.ensures.items c.in_ok-find_all.ensures);
+      c.requires.clear (subst (λ (f : List ℕ). FindsAll c.args.starts.now c.args.marks.now.items c.find_all.new.marks.items f c.find_all.new.found.items) c.clear.ensures.items c.in_ok-find_all.ensures);
   followed = followed_none (g.E.Edges.rows c.args.edges.now) _ _;
 }
 
@@ -47,8 +47,8 @@ loop-done-preserved g c =
       followed = followed_more rows _ _ _ _ c.loop-done.done c.index-node.result.now c.loop-done.invariant.followed c.in_ok-follow.ensures stands;
     }
 
-pub clear-requires-clause-inside : goal.clear-requires-clause-inside
-clear-requires-clause-inside g c =
+pub clear-requires-2-clause-inside : goal.clear-requires-2-clause-inside
+clear-requires-2-clause-inside g c =
     let all = found_inside c.loop-done.marks.items c.loop-done.found.items c.loop-done.invariant.search.are in
     rw c.as_slice.ensures.value all
 

@@ -1,6 +1,0 @@
-use Rattle.std.proofs.Common.{◌≡◌, map, take}
-use Rattle.ssa_rebuild.specs.Answers.{number_of}
-use Rattle.ssa_rebuild.proofs.stream.numbers_of.Given as goal
-
-abbrev pub invariant-loop-slot : goal.invariant-loop-slot
-invariant-loop-slot l = l.numbers.items ≡ map number_of (take l.slot-index l.slots)
