@@ -1,16 +1,18 @@
-ghost use Rattle.std.specs.Prelude.{◌≡◌, ◌+◌, ◌<◌, ◌^◌, length, IfOk};
-ghost use Rattle.std.specs.List.{All};
+ghost use Rattle.std.specs.Prelude.{◌≡◌, ◌+◌, ◌<◌, ◌^◌, length, map, IfOk};
+ghost use Rattle.std.specs.List.{All, list_all};
 ghost use Rattle.ir_ast.specs.Blocks.{EndsAtTerminator};
 ghost use Rattle.ir_ast.specs.Funcs.{instructions_of};
 ghost use Rattle.ir_ast.specs.Lines.{IsLine};
 ghost use Rattle.ir_ast.specs.Faults.UnknownName.{LocalNamesAreKnown};
 ghost use Rattle.object_meaning.specs.Lines.{following, after_all};
-ghost use Rattle.base_forms.specs.Lines.{based_insts, based_blocks};
+ghost use Rattle.base_forms.specs.Lines.{kept_line, based_insts, based_blocks};
 ghost use Rattle.base_forms.specs.Based.{based, base_table};
 ghost use Rattle.base_tables.specs.Tables.{tabled};
 ghost use Rattle.base_infer.specs.Zeros.{zeros_of};
+ghost use Rattle.base_infer.specs.Before.{stands_alone};
 
-use crate::lines::push_lines;
+use crate::lines::{push_lines, stands_alone};
+use crate::parts::renumber_inst;
 use base_tables::Tables;
 use ir_ast::{BaseTable, Block, Func, Inst, Op, Pred};
 use sp_ids::Memory;
@@ -68,6 +70,48 @@ fn insert_in(alloc: Global, tables: &Tables, next: usize, block: Block) -> Resul
 }
 
 fn all_lines(
+    alloc: Global,
+    tables: &Tables,
+    start: usize,
+    insts: Vec<Inst>,
+) -> Result<Vec<Inst>, Memory>
+    requires { start + length insts.items < 2 ^ 64 }
+    ensures { IfOk result (λ lines. lines.items ≡ based_insts (tabled tables.now) start insts.items) }
+{
+    if all_alone(tables, insts.as_slice()) {
+        return Ok(renumbered(alloc, tables, insts));
+    }
+    with_more_lines(alloc, tables, start, insts)
+}
+
+// Whether each of these instructions is all that stands for it.
+fn all_alone(tables: &Tables, insts: &[Inst]) -> bool
+    ensures { result ≡ list_all (λ inst. stands_alone (tabled tables.now) inst inst.op) insts.now }
+{
+    for inst in insts {
+        if !stands_alone(tables, inst) {
+            return false;
+        }
+    }
+    true
+}
+
+fn renumbered(alloc: Global, tables: &Tables, mut insts: Vec<Inst>) -> Vec<Inst>
+    ensures { result.items ≡ map (kept_line (tabled tables.now)) insts.items }
+{
+    renumber_all(alloc, tables, insts.as_mut_slice());
+    insts
+}
+
+fn renumber_all(alloc: Global, tables: &Tables, insts: &mut [Inst])
+    ensures { insts.new ≡ map (kept_line (tabled tables.now)) insts.old }
+{
+    for inst in insts.iter_mut() {
+        renumber_inst(alloc, tables, inst);
+    }
+}
+
+fn with_more_lines(
     alloc: Global,
     tables: &Tables,
     start: usize,

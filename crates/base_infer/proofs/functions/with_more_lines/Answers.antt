@@ -5,7 +5,7 @@ use Rattle.object_meaning.specs.Lines.{following}
 use Rattle.base_forms.specs.Lines.{lines_for, based_insts}
 use Rattle.base_tables.specs.Tables.{tabled}
 use Rattle.base_infer.proofs.LineLemmas.{after-push, following_few, insts-push}
-use Rattle.base_infer.proofs.functions.all_lines.Goals as goal
+use Rattle.base_infer.proofs.functions.with_more_lines.Goals as goal
 
 pub loop-inst-preserved : goal.loop-inst-preserved
 loop-inst-preserved c =
