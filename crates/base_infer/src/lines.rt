@@ -38,11 +38,10 @@ fn derived_relation(tables: &Tables, inst: &Inst) -> Option<Pred>
 {
     match inst.op() {
         Op::Icmp(pred) => {
-            if tables.any_derived(inst.operands()) {
-                Some(*pred)
-            } else {
-                None
+            if !tables.any_derived(inst.operands()) {
+                return None;
             }
+            Some(*pred)
         }
         Op::Phi
         | Op::Select

@@ -47,9 +47,9 @@ targets_reached func place block old new stands reached sound more b marked =
     elim (more.each b marked) [
       | inl was ↦ sound b was
       | inr edge ↦ reached_by (graph_of func) place b reached (record {
-            number = edge.0;
-            leads = ap (λ (row : List BlockId). slice_get row edge.0) (succs_at func place block stands) ∙ edge.1;
-          })
+        number = edge.0;
+        leads = ap (λ (row : List BlockId). slice_get row edge.0) (succs_at func place block stands) ∙ edge.1;
+      })
     ]
 
 pub passed_more : (graph : Graph) (place : ℕ) → ((b : ℕ) → b < place → Reached graph b) → Reached graph place

@@ -60,8 +60,7 @@ results_all : (blocks : List BasicBlock)
     → (n : ℕ) × (result_marks (replicate (length blocks) true) blocks ≡ replicate n true)
 results_all [] = (0, refl)
 results_all (block ∷ blocks) =
-    let rest = results_all blocks in
-    (
+    let rest = results_all blocks in (
       result_count block + rest.0,
       ap (λ (zs : List Bool). replicate (result_count block) true ++ zs) rest.1 ∙ replicate_more (result_count block) rest.0,
     )
@@ -96,7 +95,7 @@ operand_same : (kept : Kept) (n : ℕ) (operand : Operand) (rest : List Operand)
     → (operand_kept kept operand ≡ operand) × Below n rest
 operand_same kept n (Value value) rest stay below = (
   ap (λ (v : ℕ). (let one : Operand = Value (record { 0 = v }) in one))
-  (stay value.0 (All-head (λ (v : ℕ). v < n) value.0 (filter_map value_in rest) below)),
+      (stay value.0 (All-head (λ (v : ℕ). v < n) value.0 (filter_map value_in rest) below)),
   All-tail (λ (v : ℕ). v < n) value.0 (filter_map value_in rest) below,
 )
 operand_same kept n (Int number) rest stay below = (refl, below)

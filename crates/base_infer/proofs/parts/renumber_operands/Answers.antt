@@ -1,2 +1,0 @@
-use Rattle.base_infer.proofs.parts.renumber_operands.Goals as goal
-
