@@ -53,20 +53,27 @@ fn insert_all(
     let mut after = Vec::with_capacity(alloc, blocks.len())?;
     let mut next = start;
     for block in blocks {
-        let behind = value_after(next, block.insts());
-        after.push(insert_in(alloc, tables, next, block)?)?;
+        let (with_bases, behind) = insert_in(alloc, tables, next, block)?;
+        after.push(with_bases)?;
         next = behind;
     }
     Ok(after)
 }
 
-fn insert_in(alloc: Global, tables: &Tables, next: usize, block: Block) -> Result<Block, Memory>
+// The block, of which the first result is the value `next`, and the value after its results.
+fn insert_in(
+    alloc: Global,
+    tables: &Tables,
+    next: usize,
+    block: Block,
+) -> Result<(Block, usize), Memory>
     requires { next + length block.insts < 2 ^ 64 }
-    ensures { IfOk result (λ after. after ≡ record block { insts = based_insts (tabled tables.now) next block.insts }) }
+    ensures block { IfOk result (λ made. made.0 ≡ record block { insts = based_insts (tabled tables.now) next block.insts }) }
+    ensures behind { IfOk result (λ made. made.1 ≡ after_all next block.insts) }
 {
     let (name, insts) = block.into_parts();
-    let lines = all_lines(alloc, tables, next, insts)?;
-    Ok(Block::of(name, lines))
+    let (lines, behind) = all_lines(alloc, tables, next, insts)?;
+    Ok((Block::of(name, lines), behind))
 }
 
 fn all_lines(
@@ -74,12 +81,14 @@ fn all_lines(
     tables: &Tables,
     start: usize,
     insts: Vec<Inst>,
-) -> Result<Vec<Inst>, Memory>
+) -> Result<(Vec<Inst>, usize), Memory>
     requires { start + length insts.items < 2 ^ 64 }
-    ensures { IfOk result (λ lines. lines.items ≡ based_insts (tabled tables.now) start insts.items) }
+    ensures lines { IfOk result (λ made. made.0.items ≡ based_insts (tabled tables.now) start insts.items) }
+    ensures behind { IfOk result (λ made. made.1 ≡ after_all start insts.items) }
 {
     if all_alone(tables, insts.as_slice()) {
-        return Ok(renumbered(alloc, tables, insts));
+        let behind = value_after(start, insts.as_slice());
+        return Ok((renumbered(alloc, tables, insts), behind));
     }
     with_more_lines(alloc, tables, start, insts)
 }
@@ -116,9 +125,10 @@ fn with_more_lines(
     tables: &Tables,
     start: usize,
     insts: Vec<Inst>,
-) -> Result<Vec<Inst>, Memory>
+) -> Result<(Vec<Inst>, usize), Memory>
     requires { start + length insts.items < 2 ^ 64 }
-    ensures { IfOk result (λ lines. lines.items ≡ based_insts (tabled tables.now) start insts.items) }
+    ensures lines { IfOk result (λ made. made.0.items ≡ based_insts (tabled tables.now) start insts.items) }
+    ensures behind { IfOk result (λ made. made.1 ≡ after_all start insts.items) }
 {
     let mut lines = Vec::with_capacity(alloc, room_for(insts.as_slice()))?;
     let mut next = start;
@@ -127,7 +137,7 @@ fn with_more_lines(
         push_lines(alloc, tables, next, inst, &mut lines)?;
         next = behind;
     }
-    Ok(lines)
+    Ok((lines, next))
 }
 
 // The value after the results of these instructions.

@@ -18,7 +18,7 @@ pub(crate) fn push_lines(
     alloc: Global,
     tables: &Tables,
     next: usize,
-    inst: Inst,
+    mut inst: Inst,
     lines: &mut Vec<Inst>,
 ) -> Result<(), Memory>
     ensures { IfOk result (λ _. lines.new.items ≡ lines.old.items ++ lines_for (tabled tables.now) next inst inst.op) }
@@ -27,7 +27,9 @@ pub(crate) fn push_lines(
         Some(pred) => push_compared(alloc, tables, next, pred, inst, lines),
         None => {
             push_before(alloc, tables, next, &inst, lines)?;
-            push_kept(alloc, tables, inst, lines)
+            renumber_inst(alloc, tables, &mut inst);
+            lines.push(inst)?;
+            Ok(())
         }
     }
 }

@@ -6,8 +6,8 @@ use Rattle.base_infer.specs.Before.{stands_alone}
 use Rattle.base_infer.proofs.ApartLemmas.{alone_insts}
 use Rattle.base_infer.proofs.functions.all_lines.Goals as goal
 
-pub returns-then-all_alone : goal.returns-then-all_alone
-returns-then-all_alone c =
+pub returns-then-all_alone-clause-lines : goal.returns-then-all_alone-clause-lines
+returns-then-all_alone-clause-lines c =
     let given = tabled c.args.tables.now in
     let all : list_all (λ inst. stands_alone given inst inst.op) c.args.insts.items ≡ true =
     ap (λ (insts : List Instruction). list_all (λ inst. stands_alone given inst inst.op) insts) (sym c.as_slice.ensures.value)
