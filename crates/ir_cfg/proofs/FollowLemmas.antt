@@ -1,9 +1,8 @@
 -- Blocks that are found in text order.
-use Rattle.std.proofs.Common.{◌≡◌, ℕ, ◌<◌, ◌≤◌, ◌+◌, Bool, true, false, List, [], ◌∷◌, length, get_or, set, map, replicate, refl, ap, sym, arith, Some, slice_get, inl, inr, ◌⊎◌, ◌∙◌, subst}
-use Rattle.std.proofs.lemmas.Bool.{cases_lt, true≢false}
+use Rattle.std.proofs.Common.{◌≡◌, ℕ, ◌<◌, ◌+◌, Bool, true, false, List, [], ◌∷◌, length, replicate, ap, sym, arith, Some, slice_get, inl, inr, ◌⊎◌, ◌∙◌, subst}
 use Rattle.std.proofs.lemmas.List.{length-map, length-replicate}
-use Rattle.std.proofs.lemmas.Option.{slice_get_within, slice_get-get_or}
-use Rattle.list_laws.proofs.Places.{cases_below, get_filled, get_replicate, get_set}
+use Rattle.std.proofs.lemmas.Option.{slice_get_within}
+use Rattle.list_laws.proofs.Places.{cases_below, get_filled, get_replicate}
 use Rattle.sp_ids.specs.declared.ids.BlockId.{BlockId}
 use Rattle.ir_ast.specs.Blocks.{BasicBlock}
 use Rattle.ir_ast.specs.Funcs.{Function}
@@ -13,7 +12,6 @@ use Rattle.graph_search.specs.Paths.{Marked}
 use Rattle.ir_cfg.specs.Graphs.{Graph, graph_of, block_at}
 use Rattle.ir_cfg.specs.Paths.{Path, Reached, at_entry, along}
 use Rattle.ir_cfg.specs.Turned.{LeadsInside}
-use Rattle.ir_cfg.specs.Marks.{MarksReached}
 use Rattle.ir_cfg.specs.Followed.{AreReached, MarksMore}
 use Rattle.ir_cfg.specs.Unreached.{DropsUnreached}
 use Rattle.ir_cfg.proofs.GraphLemmas.{leads_inside}

@@ -12,10 +12,10 @@ use Rattle.ir_ast.specs.declared.ops.Operand.{Operand}
 use Rattle.ir_ast.specs.declared.ops.Operand.TheVariants.{Value, Int, Null, Fun}
 use Rattle.ir_ast.specs.Insts.{Instruction}
 use Rattle.ir_ast.specs.Blocks.{BasicBlock}
-use Rattle.ir_ast.specs.Funcs.{Function, instructions_of}
+use Rattle.ir_ast.specs.Funcs.{Function}
 use Rattle.ir_ast.specs.Formed.{IsFormed}
 use Rattle.ir_ast.specs.Lines.{LineOf, IsLine}
-use Rattle.ir_ast.specs.Operands.{value_in, values_used}
+use Rattle.ir_ast.specs.Operands.{value_in}
 use Rattle.ir_ast.specs.Values.{definitions_of}
 use Rattle.ir_ast.specs.Faults.UnknownName.{NamesOfFunction}
 use Rattle.ir_cfg.specs.Unreached.{Kept, kept_of, kept_by, new_numbers, result_count, result_marks, value_marks, operand_kept, label_kept, has_mark, inst_kept, block_kept, function_kept}

@@ -1,10 +1,9 @@
-use Rattle.std.proofs.Common.{◌≡◌, ℕ, ◌<◌, true, length, Some, slice_get, arith, rules, sym, ap, ◌∙◌, inl, inr}
+use Rattle.std.proofs.Common.{◌≡◌, ◌<◌, true, length, Some, slice_get, arith, sym, ap, ◌∙◌, inl, inr}
 use Rattle.std.proofs.lemmas.Bool.{true≢false}
 use Rattle.std.proofs.lemmas.Option.{slice_get-get_or}
 use Rattle.ir_ast.specs.Blocks.{BasicBlock}
 use Rattle.graph_search.specs.Paths.{Marked}
 use Rattle.ir_cfg.specs.Graphs.{graph_of}
-use Rattle.ir_cfg.specs.Paths.{Reached}
 use Rattle.ir_cfg.specs.Followed.{MarksMore}
 use Rattle.ir_ast.specs.Edges.{targets}
 use Rattle.ir_cfg.proofs.FollowLemmas.{none_marked, entry_reached, targets_reached, passed_more}
