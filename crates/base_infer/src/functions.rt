@@ -1,16 +1,18 @@
-ghost use Rattle.std.specs.Prelude.{◌≡◌, ◌+◌, ◌<◌, ◌^◌, length, IfOk};
-ghost use Rattle.std.specs.List.{All};
+ghost use Rattle.std.specs.Prelude.{◌≡◌, ◌+◌, ◌<◌, ◌^◌, length, map, IfOk};
+ghost use Rattle.std.specs.List.{All, list_all};
 ghost use Rattle.ir_ast.specs.Blocks.{EndsAtTerminator};
 ghost use Rattle.ir_ast.specs.Funcs.{instructions_of};
 ghost use Rattle.ir_ast.specs.Lines.{IsLine};
 ghost use Rattle.ir_ast.specs.Faults.UnknownName.{LocalNamesAreKnown};
 ghost use Rattle.object_meaning.specs.Lines.{following, after_all};
-ghost use Rattle.base_forms.specs.Lines.{based_insts, based_blocks};
+ghost use Rattle.base_forms.specs.Lines.{kept_line, based_insts, based_blocks};
 ghost use Rattle.base_forms.specs.Based.{based, base_table};
 ghost use Rattle.base_tables.specs.Tables.{tabled};
 ghost use Rattle.base_infer.specs.Zeros.{zeros_of};
+ghost use Rattle.base_infer.specs.Before.{stands_alone};
 
-use crate::lines::push_lines;
+use crate::lines::{push_lines, stands_alone};
+use crate::parts::renumber_inst;
 use base_tables::Tables;
 use ir_ast::{BaseTable, Block, Func, Inst, Op, Pred};
 use sp_ids::Memory;
@@ -51,20 +53,27 @@ fn insert_all(
     let mut after = Vec::with_capacity(alloc, blocks.len())?;
     let mut next = start;
     for block in blocks {
-        let behind = value_after(next, block.insts());
-        after.push(insert_in(alloc, tables, next, block)?)?;
+        let (with_bases, behind) = insert_in(alloc, tables, next, block)?;
+        after.push(with_bases)?;
         next = behind;
     }
     Ok(after)
 }
 
-fn insert_in(alloc: Global, tables: &Tables, next: usize, block: Block) -> Result<Block, Memory>
+// The block, of which the first result is the value `next`, and the value after its results.
+fn insert_in(
+    alloc: Global,
+    tables: &Tables,
+    next: usize,
+    block: Block,
+) -> Result<(Block, usize), Memory>
     requires { next + length block.insts < 2 ^ 64 }
-    ensures { IfOk result (λ after. after ≡ record block { insts = based_insts (tabled tables.now) next block.insts }) }
+    ensures block { IfOk result (λ made. made.0 ≡ record block { insts = based_insts (tabled tables.now) next block.insts }) }
+    ensures behind { IfOk result (λ made. made.1 ≡ after_all next block.insts) }
 {
     let (name, insts) = block.into_parts();
-    let lines = all_lines(alloc, tables, next, insts)?;
-    Ok(Block::of(name, lines))
+    let (lines, behind) = all_lines(alloc, tables, next, insts)?;
+    Ok((Block::of(name, lines), behind))
 }
 
 fn all_lines(
@@ -72,9 +81,54 @@ fn all_lines(
     tables: &Tables,
     start: usize,
     insts: Vec<Inst>,
-) -> Result<Vec<Inst>, Memory>
+) -> Result<(Vec<Inst>, usize), Memory>
     requires { start + length insts.items < 2 ^ 64 }
-    ensures { IfOk result (λ lines. lines.items ≡ based_insts (tabled tables.now) start insts.items) }
+    ensures lines { IfOk result (λ made. made.0.items ≡ based_insts (tabled tables.now) start insts.items) }
+    ensures behind { IfOk result (λ made. made.1 ≡ after_all start insts.items) }
+{
+    if all_alone(tables, insts.as_slice()) {
+        let behind = value_after(start, insts.as_slice());
+        return Ok((renumbered(alloc, tables, insts), behind));
+    }
+    with_more_lines(alloc, tables, start, insts)
+}
+
+// Whether each of these instructions is all that stands for it.
+fn all_alone(tables: &Tables, insts: &[Inst]) -> bool
+    ensures { result ≡ list_all (λ inst. stands_alone (tabled tables.now) inst inst.op) insts.now }
+{
+    for inst in insts {
+        if !stands_alone(tables, inst) {
+            return false;
+        }
+    }
+    true
+}
+
+fn renumbered(alloc: Global, tables: &Tables, mut insts: Vec<Inst>) -> Vec<Inst>
+    ensures { result.items ≡ map (kept_line (tabled tables.now)) insts.items }
+{
+    renumber_all(alloc, tables, insts.as_mut_slice());
+    insts
+}
+
+fn renumber_all(alloc: Global, tables: &Tables, insts: &mut [Inst])
+    ensures { insts.new ≡ map (kept_line (tabled tables.now)) insts.old }
+{
+    for inst in insts.iter_mut() {
+        renumber_inst(alloc, tables, inst);
+    }
+}
+
+fn with_more_lines(
+    alloc: Global,
+    tables: &Tables,
+    start: usize,
+    insts: Vec<Inst>,
+) -> Result<(Vec<Inst>, usize), Memory>
+    requires { start + length insts.items < 2 ^ 64 }
+    ensures lines { IfOk result (λ made. made.0.items ≡ based_insts (tabled tables.now) start insts.items) }
+    ensures behind { IfOk result (λ made. made.1 ≡ after_all start insts.items) }
 {
     let mut lines = Vec::with_capacity(alloc, room_for(insts.as_slice()))?;
     let mut next = start;
@@ -83,7 +137,7 @@ fn all_lines(
         push_lines(alloc, tables, next, inst, &mut lines)?;
         next = behind;
     }
-    Ok(lines)
+    Ok((lines, next))
 }
 
 // The value after the results of these instructions.

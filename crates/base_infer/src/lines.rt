@@ -2,11 +2,12 @@
 
 ghost use Rattle.std.specs.Prelude.{◌≡◌, ◌++◌, [], ◌∷◌, if◌then◌else◌, IfOk};
 ghost use Rattle.ir_ast.specs.declared.ops.Op.{Op};
-ghost use Rattle.base_forms.specs.Lines.{operand_at, kept_line, merged, base_line, check, compared_equal, compared_unequal, lines_for};
+ghost use Rattle.base_forms.specs.Lines.{operand_at, kept_line, base_line, check, compared, compared_equal, compared_unequal, lines_for};
+ghost use Rattle.base_infer.specs.Before.{lines_before, derived_relation, stands_alone};
 ghost use Rattle.base_tables.specs.Tables.{tabled};
 ghost use Rattle.base_tables.specs.Kinds.{any_marked};
 
-use crate::parts::{base_line, check_line, kept, name, negation, operand_at, same_line};
+use crate::parts::{base_line, check_line, name, negation, operand_at, renumber_inst, same_line};
 use base_tables::Tables;
 use ir_ast::{Inst, Op, Pred};
 use sp_ids::Memory;
@@ -17,20 +18,118 @@ pub(crate) fn push_lines(
     alloc: Global,
     tables: &Tables,
     next: usize,
-    inst: Inst,
+    mut inst: Inst,
     lines: &mut Vec<Inst>,
 ) -> Result<(), Memory>
     ensures { IfOk result (λ _. lines.new.items ≡ lines.old.items ++ lines_for (tabled tables.now) next inst inst.op) }
 {
-    match inst.op() {
-        Op::Phi => push_merge(alloc, tables, next, false, inst, lines),
-        Op::Select => push_merge(alloc, tables, next, true, inst, lines),
-        Op::Icmp(pred) => {
-            let relation = *pred;
-            push_compare(alloc, tables, next, relation, inst, lines)
+    match derived_relation(tables, &inst) {
+        Some(pred) => push_compared(alloc, tables, next, pred, inst, lines),
+        None => {
+            push_before(alloc, tables, next, &inst, lines)?;
+            renumber_inst(alloc, tables, &mut inst);
+            lines.push(inst)?;
+            Ok(())
         }
-        Op::Load => push_checked(alloc, tables, 0, inst, lines),
-        Op::Store => push_checked(alloc, tables, 1, inst, lines),
+    }
+}
+
+// The relation of a compare with a derived operand.
+fn derived_relation(tables: &Tables, inst: &Inst) -> Option<Pred>
+    ensures { result ≡ derived_relation (tabled tables.now) inst.now inst.now.op }
+{
+    match inst.op() {
+        Op::Icmp(pred) => {
+            if !tables.any_derived(inst.operands()) {
+                return None;
+            }
+            Some(*pred)
+        }
+        Op::Phi
+        | Op::Select
+        | Op::Load
+        | Op::Store
+        | Op::Add
+        | Op::Sub
+        | Op::Mul
+        | Op::Udiv
+        | Op::Sdiv
+        | Op::Urem
+        | Op::Srem
+        | Op::And
+        | Op::Or
+        | Op::Xor
+        | Op::Shl
+        | Op::Lshr
+        | Op::Ashr
+        | Op::Trunc(_)
+        | Op::Zext(_)
+        | Op::Sext(_)
+        | Op::Gep { .. }
+        | Op::Call { .. }
+        | Op::Statepoint { .. }
+        | Op::GcResult
+        | Op::GcRelocate
+        | Op::Br
+        | Op::CondBr
+        | Op::Switch
+        | Op::Ret
+        | Op::Unreachable => None,
+    }
+}
+
+// What stands before an instruction that stays.
+fn push_before(
+    alloc: Global,
+    tables: &Tables,
+    next: usize,
+    inst: &Inst,
+    lines: &mut Vec<Inst>,
+) -> Result<(), Memory>
+    ensures { IfOk result (λ _. lines.new.items ≡ lines.old.items ++ lines_before (tabled tables.now) next inst.now inst.now.op) }
+{
+    match inst.op() {
+        Op::Phi => push_base(alloc, tables, next, false, inst, lines),
+        Op::Select => push_base(alloc, tables, next, true, inst, lines),
+        Op::Load => push_check(alloc, tables, 0, inst, lines),
+        Op::Store => push_check(alloc, tables, 1, inst, lines),
+        Op::Icmp(_)
+        | Op::Add
+        | Op::Sub
+        | Op::Mul
+        | Op::Udiv
+        | Op::Sdiv
+        | Op::Urem
+        | Op::Srem
+        | Op::And
+        | Op::Or
+        | Op::Xor
+        | Op::Shl
+        | Op::Lshr
+        | Op::Ashr
+        | Op::Trunc(_)
+        | Op::Zext(_)
+        | Op::Sext(_)
+        | Op::Gep { .. }
+        | Op::Call { .. }
+        | Op::Statepoint { .. }
+        | Op::GcResult
+        | Op::GcRelocate
+        | Op::Br
+        | Op::CondBr
+        | Op::Switch
+        | Op::Ret
+        | Op::Unreachable => Ok(()),
+    }
+}
+
+/// Whether an instruction is all that stands for it.
+pub(crate) fn stands_alone(tables: &Tables, inst: &Inst) -> bool
+    ensures { result ≡ stands_alone (tabled tables.now) inst.now inst.now.op }
+{
+    match inst.op() {
+        Op::Phi | Op::Select | Op::Icmp(_) => !tables.any_derived(inst.operands()),
+        Op::Load | Op::Store => false,
         Op::Add
         | Op::Sub
         | Op::Mul
@@ -56,30 +155,21 @@ pub(crate) fn push_lines(
         | Op::CondBr
         | Op::Switch
         | Op::Ret
-        | Op::Unreachable => push_kept(tables, inst, lines),
+        | Op::Unreachable => true,
     }
 }
 
-fn push_kept(tables: &Tables, inst: Inst, lines: &mut Vec<Inst>) -> Result<(), Memory>
-    ensures { IfOk result (λ _. lines.new.items ≡ lines.old.items ++ kept_line (tabled tables.now) inst ∷ []) }
-{
-    lines.push(kept(tables, inst))?;
-    Ok(())
-}
-
-fn push_merge(
+fn push_kept(
     alloc: Global,
     tables: &Tables,
-    next: usize,
-    is_select: bool,
-    inst: Inst,
+    mut inst: Inst,
     lines: &mut Vec<Inst>,
 ) -> Result<(), Memory>
-    requires { inst.op ≡ (if is_select then Op.Select else Op.Phi) }
-    ensures { IfOk result (λ _. lines.new.items ≡ lines.old.items ++ merged (tabled tables.now) next inst) }
+    ensures { IfOk result (λ _. lines.new.items ≡ lines.old.items ++ kept_line (tabled tables.now) inst ∷ []) }
 {
-    push_base(alloc, tables, next, is_select, &inst, lines)?;
-    push_kept(tables, inst, lines)
+    renumber_inst(alloc, tables, &mut inst);
+    lines.push(inst)?;
+    Ok(())
 }
 
 // The base of a phi or select, where that is derived.
@@ -101,7 +191,8 @@ fn push_base(
     Ok(())
 }
 
-fn push_compare(
+// A compare with a derived operand.
+fn push_compared(
     alloc: Global,
     tables: &Tables,
     next: usize,
@@ -109,11 +200,8 @@ fn push_compare(
     inst: Inst,
     lines: &mut Vec<Inst>,
 ) -> Result<(), Memory>
-    ensures { IfOk result (λ _. lines.new.items ≡ lines.old.items ++ lines_for (tabled tables.now) next inst (Op.Icmp pred)) }
+    ensures { IfOk result (λ _. lines.new.items ≡ lines.old.items ++ compared (tabled tables.now) next inst pred) }
 {
-    if !tables.any_derived(inst.operands()) {
-        return push_kept(tables, inst, lines);
-    }
     match pred {
         Pred::Eq => push_equal(alloc, tables, inst, lines),
         Pred::Ne => push_unequal(alloc, tables, next, inst, lines),
@@ -124,7 +212,7 @@ fn push_compare(
         | Pred::Sgt
         | Pred::Sge
         | Pred::Slt
-        | Pred::Sle => push_kept(tables, inst, lines),
+        | Pred::Sle => push_kept(alloc, tables, inst, lines),
     }
 }
 
@@ -161,17 +249,17 @@ fn push_unequal(
     Ok(())
 }
 
-fn push_checked(
+// The check before an access.
+fn push_check(
     alloc: Global,
     tables: &Tables,
     place: usize,
-    inst: Inst,
+    inst: &Inst,
     lines: &mut Vec<Inst>,
 ) -> Result<(), Memory>
-    ensures { IfOk result (λ _. lines.new.items ≡ lines.old.items
-        ++ check (tabled tables.now) inst (operand_at inst place) ∷ kept_line (tabled tables.now) inst ∷ []) }
+    ensures { IfOk result (λ _. lines.new.items ≡ lines.old.items ++ check (tabled tables.now) inst.now (operand_at inst.now place) ∷ []) }
 {
     let address = operand_at(inst.operands(), place);
-    lines.push(check_line(alloc, tables, &inst, address)?)?;
-    push_kept(tables, inst, lines)
+    lines.push(check_line(alloc, tables, inst, address)?)?;
+    Ok(())
 }

@@ -15,9 +15,40 @@ use itoa::Buffer;
 use smallvec::SmallVec;
 use sp_ids::Memory;
 use std::alloc::Global;
+use std::mem;
 
-/// The instruction itself, over the new numbers.
-pub(crate) fn kept(tables: &Tables, inst: Inst) -> Inst
+/// Gives an instruction the new numbers, where it stands.
+pub(crate) fn renumber_inst(alloc: Global, tables: &Tables, inst: &mut Inst)
+    ensures { inst.new ≡ kept_line (tabled tables.now) inst.old }
+{
+    if inst.bundle().is_empty() {
+        renumber_operands(tables, inst);
+    } else {
+        let old = mem::replace(inst, no_line(alloc));
+        *inst = kept(tables, old);
+    }
+}
+
+fn renumber_operands(tables: &Tables, inst: &mut Inst)
+    requires { inst.old.bundle ≡ [] }
+    ensures { inst.new ≡ kept_line (tabled tables.now) inst.old }
+{
+    renumber(tables, inst.operands_mut());
+}
+
+fn no_line(alloc: Global) -> Inst {
+    Inst::of(
+        None,
+        Op::Unreachable,
+        Ty::Void,
+        SmallVec::new(alloc),
+        SmallVec::new(alloc),
+        Vec::new(alloc),
+    )
+}
+
+// The instruction itself, over the new numbers.
+fn kept(tables: &Tables, inst: Inst) -> Inst
     ensures { result ≡ kept_line (tabled tables.now) inst }
 {
     let (named, op, ty, mut operands, labels, mut bundle) = inst.into_parts();

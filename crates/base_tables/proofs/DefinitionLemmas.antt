@@ -6,10 +6,8 @@ use Rattle.std.proofs.lemmas.Bool.{cases_Bool, false≢true}
 use Rattle.std.proofs.lemmas.List.{length-map, length-append}
 use Rattle.std.proofs.lemmas.List.Elements.{All-nil, All-cons, All-head, All-tail, All-append}
 use Rattle.std.proofs.lemmas.List.Sums.{length-filter, count_by-le-length}
-use Rattle.std.proofs.lemmas.Option.{slice_get_within}
 use Rattle.list_laws.proofs.Places.{get_map, map_back}
 use Rattle.list_laws.proofs.Contents.{all_at}
-use Rattle.graph_search.specs.Paths.{ReachedFrom, at_start, along}
 use Rattle.ir_ast.specs.declared.funcs.Arg.{Arg}
 use Rattle.ir_ast.specs.declared.types.Ty.{Ty}
 use Rattle.ir_ast.specs.declared.ops.Pred.TheVariants.{Ne}
@@ -28,7 +26,7 @@ use Rattle.base_forms.specs.Bases.{source_of}
 use Rattle.base_forms.proofs.DerivedLaws.{only_marks}
 use Rattle.base_tables.specs.Kinds.{Kind, plain, steps, merges, differs, kind_by, kind_of, any_marked, kind_merged, kind_negated, kind_source}
 use Rattle.base_tables.specs.Flags.{kind_inserted}
-use Rattle.base_tables.specs.Users.{UsedBy, StepsAt, AreSources, AreMarks}
+use Rattle.base_tables.specs.Users.{UsedBy, StepsAt, DerivedIn, at_step, at_use, AreMarks}
 
 -- ---- all definitions
 
@@ -197,32 +195,20 @@ module _ (func : Function) (lines : All IsLine (instructions_of func.blocks)) wh
         used = subst (λ (vs : List ℕ). Contains vs operand) (quiet inst none) used;
       }
 
-  derived_inside : (value : ℕ) → Derived func value → value < length (definitions_of func)
-  derived_inside _ (by_step value inst gives step) = slice_get_within (definitions_of func) value (outcome inst) gives
-  derived_inside _ (by_merge value operand inst gives merge used derived) = slice_get_within (definitions_of func) value (outcome inst) gives
+  in_derived : (value : ℕ) → DerivedIn (map kind_of (definitions_of func)) value → Derived func value
+  in_derived _ (at_step value at) = step_derived value at
+  in_derived _ (at_use value user used derived) = use_derived value user used (in_derived value derived)
 
-  module _ (found : List ℕ) (users : List (List ℕ)) (sources : AreSources (map kind_of (definitions_of func)) (length (map kind_of (definitions_of func))) found users) where
-    reached_derived : (value : ℕ) → ReachedFrom users found value → Derived func value
-    reached_derived _ (at_start node there) = step_derived node (sources.step_found node there).1
-    reached_derived _ (along from to reached edge) = use_derived from to (sources.use_found from to edge).1 (reached_derived from reached)
+  derived_in : (value : ℕ) → Derived func value → DerivedIn (map kind_of (definitions_of func)) value
+  derived_in _ (by_step value inst gives step) = at_step value (derived_step value inst gives step)
+  derived_in _ (by_merge value operand inst gives merge used derived) =
+      at_use operand value (derived_use value operand inst gives merge used) (derived_in operand derived)
 
-    derived_reached : (value : ℕ) → Derived func value → ReachedFrom users found value
-    derived_reached _ (by_step value inst gives step) =
-        let inside = slice_get_within (definitions_of func) value (outcome inst) gives in
-        let size = length-map (definitions_of func) kind_of in
-        at_start value (sources.step_kept value (omega (arith, inside, size)) (derived_step value inst gives step))
-    derived_reached _ (by_merge value operand inst gives merge used derived) =
-        let inside = slice_get_within (definitions_of func) value (outcome inst) gives in
-        let also = derived_inside operand derived in
-        let size = length-map (definitions_of func) kind_of in
-        along operand value (derived_reached operand derived)
-        (sources.use_kept operand value (omega (arith, inside, size)) (derived_use value operand inst gives merge used) (omega (arith, also, size)))
-
-  -- the marks of the search are those of the derived values
+  -- the marks are those of the derived values
   pub marks_are : (marks : List Bool) → AreMarks (map kind_of (definitions_of func)) marks → marks ≡ derived_marks func
   marks_are marks found =
       only_marks func marks (record {
-        whole = found.reached.whole ∙ found.sources.whole ∙ length-map (definitions_of func) kind_of;
-        sound = λ value marked. reached_derived found.found found.users found.sources value (found.reached.sound value marked);
-        complete = λ value derived. found.reached.complete value (derived_reached found.found found.users found.sources value derived);
+        whole = found.whole ∙ length-map (definitions_of func) kind_of;
+        sound = λ value marked. in_derived value (found.sound value marked);
+        complete = λ value derived. found.complete value (derived_in value derived);
       })

@@ -1,7 +1,10 @@
 -- The way back among kinds.
 use Rattle.std.proofs.Common.{◌≡◌, ◌≢◌, ◌∙◌, ℕ, suc, ◌<◌, ◌≤◌, ◌+◌, ◌-◌, List, length, set, replicate, Option, Some, None, slice_get, refl, ap, sym, arith, inl, inr, ◌⊎◌}
+use Rattle.std.specs.Prelude.{map, IfSome}
+use Rattle.std.specs.List.{range_with_len}
 use Rattle.std.specs.Option.{option_and_then}
-use Rattle.std.proofs.lemmas.Option.{none-some, same_Some, slice_get_within}
+use Rattle.std.proofs.lemmas.List.FromFn.{get_or-map-range_with_len, length-map-range_with_len}
+use Rattle.std.proofs.lemmas.Option.{none-some, same_Some, slice_get_within, get_or_from_slice_get}
 use Rattle.list_laws.proofs.Places.{get_set, get_filled}
 use Rattle.ir_ast.specs.declared.ops.Operand.{Operand}
 use Rattle.ir_ast.specs.declared.ops.Operand.TheVariants.{Value, Int, Null, Fun}
@@ -61,3 +64,21 @@ found_is kinds found (Value value) origin are is = sym (are.each value.0 origin 
 found_is kinds found (Int word) origin are is = absurd (none-some origin is)
 found_is kinds found Null origin are is = absurd (none-some origin is)
 found_is kinds found (Fun other) origin are is = absurd (none-some origin is)
+
+-- ---- in order
+
+origins_at : (kinds : List Kind) (before : List Operand) (value v : ℕ) (origin : Operand)
+    → before ≡ map (λ value. origin_in kinds (named value)) (range_with_len 0 value) → slice_get before v ≡ Some origin
+    → origin ≡ origin_in kinds (named v)
+origins_at kinds before value v origin are is =
+    let f : ℕ → Operand = λ value. origin_in kinds (named value) in
+    let there : slice_get (map f (range_with_len 0 value)) v ≡ Some origin = rw are at is in
+    let within = slice_get_within (map f (range_with_len 0 value)) v origin there in
+    sym (get_or_from_slice_get (map f (range_with_len 0 value)) v origin origin there)
+    ∙ get_or-map-range_with_len f 0 value v v origin (omega (arith, within, length-map-range_with_len f 0 value)) (omega arith)
+
+pub origins_if : (kinds : List Kind) (before : List Operand) (value v : ℕ) (found : Option Operand)
+    → before ≡ map (λ value. origin_in kinds (named value)) (range_with_len 0 value) → found ≡ slice_get before v
+    → IfSome found (λ origin. origin ≡ origin_in kinds (named v))
+origins_if kinds before value v None are is = tt
+origins_if kinds before value v (Some origin) are is = origins_at kinds before value v origin are (sym is)

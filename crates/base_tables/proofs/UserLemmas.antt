@@ -1,20 +1,22 @@
 -- Users of values, and the marks of a search along them.
-use Rattle.std.proofs.Common.{◌≡◌, ◌∙◌, ℕ, zero, suc, ◌<◌, ◌≤◌, ◌+◌, Bool, List, [], ◌∷◌, ◌++◌, length, get_or, set, take, replicate, Option, Some, None, slice_get, refl, ap, sym, subst, arith, inl, inr, ◌⊎◌}
+use Rattle.std.proofs.Common.{◌≡◌, ◌∙◌, ℕ, zero, suc, ◌<◌, ◌≤◌, ◌+◌, Bool, true, false, not, ◌||◌, List, [], ◌∷◌, ◌++◌, length, get_or, set, take, replicate, Option, Some, None, slice_get, refl, ap, sym, subst, arith, inl, inr, ◌⊎◌}
 use Rattle.std.specs.Prelude.{map}
-use Rattle.std.specs.List.{Contains, filter_map}
+use Rattle.std.specs.List.{Contains, filter_map, list_any}
 use Rattle.std.specs.Option.{option_to_list}
 use Rattle.std.proofs.lemmas.List.{length-set, take_more, length-replicate}
 use Rattle.std.proofs.lemmas.List.Elements.{Contains-append_left, Contains-append_right, Contains-append_cases, filter_map-append}
-use Rattle.std.proofs.lemmas.Option.{none-some, same_Some, slice_get-get_or}
-use Rattle.list_laws.proofs.Places.{cases_below, get_front, get_middle, get_pushed, get_map}
-use Rattle.list_laws.proofs.Contents.{contains_none, contains_one, contains_first}
+use Rattle.std.proofs.lemmas.Bool.{cases_Bool, false≢true}
+use Rattle.std.proofs.lemmas.Option.{none-some, same_Some, slice_get-get_or, slice_get_within, get_or_from_slice_get}
+use Rattle.list_laws.proofs.Places.{cases_below, get_map, map_back}
+use Rattle.list_laws.proofs.Contents.{contains_none, contains_one, contains_first, contains_later, contains_cons}
 use Rattle.edge_rows.proofs.Rows.{pushed, pushed-kept, pushed-added, pushed-source}
 use Rattle.graph_search.specs.Edges.{Edge, AreInside}
-use Rattle.graph_search.specs.Paths.{MarksReached}
+use Rattle.graph_search.specs.Paths.{Marked, MarksReached, ReachedFrom, at_start, along}
 use Rattle.ir_ast.specs.declared.ops.Operand.{Operand}
 use Rattle.ir_ast.specs.Operands.{value_in}
-use Rattle.base_tables.specs.Kinds.{Kind, plain, steps, merges, differs}
-use Rattle.base_tables.specs.Users.{AddsUsers, Notes, UsedBy, StepsAt, AreSources, AreMarks}
+use Rattle.base_forms.specs.DerivedMarks.{has_mark}
+use Rattle.base_tables.specs.Kinds.{Kind, plain, steps, merges, differs, any_marked, kind_merged}
+use Rattle.base_tables.specs.Users.{AddsUsers, Notes, UsedBy, StepsAt, AreSources, DerivedIn, at_step, at_use, AreMarks, kind_steps, closed_at}
 
 -- ---- adding users
 
@@ -214,11 +216,138 @@ sources_inside kinds count found users size sources = record {
   edges_inside = λ from to edge. let f = sources.use_found from to edge in omega (arith, f.0, sources.whole);
 }
 
+-- marks of a search from the steps along the users
+module _ (kinds : List Kind) (found : List ℕ) (users : List (List ℕ)) (sources : AreSources kinds (length kinds) found users) where
+  reached_in : (value : ℕ) → ReachedFrom users found value → DerivedIn kinds value
+  reached_in _ (at_start node there) = at_step node (sources.step_found node there).1
+  reached_in _ (along from to reached edge) = at_use from to (sources.use_found from to edge).1 (reached_in from reached)
+
+  in_reached : (value : ℕ) → DerivedIn kinds value → (value < length kinds) × ReachedFrom users found value
+  in_reached _ (at_step value at) =
+      let inside = slice_get_within kinds value (steps at.before) at.stands in
+      (inside, at_start value (sources.step_kept value inside at))
+  in_reached _ (at_use value user used derived) =
+      let inside = slice_get_within kinds user (merges used.operands) used.stands in
+      let before = in_reached value derived in
+      (inside, along value user before.1 (sources.use_kept value user inside used before.0))
+
+  pub marks_of_search : (marks : List Bool) → MarksReached users found marks → AreMarks kinds marks
+  marks_of_search marks reached = record {
+    whole = reached.whole ∙ sources.whole;
+    sound = λ value marked. reached_in value (reached.sound value marked);
+    complete = λ value derived. reached.complete value (in_reached value derived).1;
+  }
+
 pub are_marks : (kinds : List Kind) (count : ℕ) (found : List ℕ) (users : List (List ℕ)) (marks : List Bool) → count ≡ length kinds
     → AreSources kinds count found users → MarksReached users found marks → AreMarks kinds marks
-are_marks kinds count found users marks size sources reached = record {
-  found = found;
-  users = users;
-  sources = subst (λ (n : ℕ). AreSources kinds n found users) size sources;
-  reached = reached;
-}
+are_marks kinds count found users marks size sources reached =
+    marks_of_search kinds found users (subst (λ (n : ℕ). AreSources kinds n found users) size sources) marks reached
+
+-- ---- marks that are spread in order
+
+step_derived : (kinds : List Kind) (value : ℕ) (kind : Kind) → slice_get kinds value ≡ Some kind → kind_steps kind ≡ true → DerivedIn kinds value
+step_derived kinds value (steps before) stands is = at_step value (record { before = before; stands = stands })
+step_derived kinds value kind stands is = absurd (false≢true is)
+
+pub steps_sound : (kinds : List Kind) (value : ℕ) → Marked (map kind_steps kinds) value → DerivedIn kinds value
+steps_sound kinds value marked =
+    let m = map_back kind_steps kinds value true marked in
+    step_derived kinds value m.before m.stands (sym m.is)
+
+marked_use : (marks : List Bool) (values : List ℕ) → list_any (has_mark marks) values ≡ true → (value : ℕ) × (Contains values value) × Marked marks value
+marked_use marks [] any = absurd (false≢true any)
+marked_use marks (value ∷ values) any = elim (cases_Bool (has_mark marks value)) [
+  | inl here ↦ (value, contains_first value values, mark_there marks value here)
+  | inr none ↦
+      let rest = marked_use marks values (rw none at any) in
+      (rest.0, contains_later value rest.0 values rest.1, rest.2)
+]
+  where
+    mark_there : (marks : List Bool) (value : ℕ) → get_or marks value false ≡ true → Marked marks value
+    mark_there [] value is = absurd (false≢true is)
+    mark_there (mark ∷ marks) zero is = ap (λ (m : Bool). Some m) is
+    mark_there (mark ∷ marks) (suc value) is = mark_there marks value is
+
+-- a phi or select that uses a marked value
+merge_derived : (kinds : List Kind) (marks : List Bool) (value : ℕ) (operands : List Operand) → slice_get kinds value ≡ Some (merges operands)
+    → any_marked marks operands ≡ true → ((v : ℕ) → Marked marks v → DerivedIn kinds v) → DerivedIn kinds value
+merge_derived kinds marks value operands stands any sound =
+    let used = marked_use marks (filter_map value_in operands) any in
+    at_use used.0 value (record { operands = operands; stands = stands; used = used.1 }) (sound used.0 used.2)
+
+merged_derived : (kinds : List Kind) (marks : List Bool) (value : ℕ) (kind : Kind) → slice_get kinds value ≡ Some kind
+    → kind_merged marks kind ≡ true → ((v : ℕ) → Marked marks v → DerivedIn kinds v) → DerivedIn kinds value
+merged_derived kinds marks value (merges operands) stands any sound = merge_derived kinds marks value operands stands any sound
+merged_derived kinds marks value kind stands any sound = absurd (false≢true any)
+
+-- one value more
+sound_more : (kinds : List Kind) (marks new : List Bool) (value : ℕ) (kind : Kind) → slice_get kinds value ≡ Some kind
+    → ((v : ℕ) → Marked marks v → DerivedIn kinds v)
+    → ((v : ℕ) → Marked new v → Marked marks v ⊎ ((v ≡ value) × (kind_merged marks kind ≡ true)))
+    → (v : ℕ) → Marked new v → DerivedIn kinds v
+sound_more kinds marks new value kind stands sound each v marked = elim (each v marked) [
+  | inl old ↦ sound v old
+  | inr own ↦ subst (DerivedIn kinds) (sym own.0) (merged_derived kinds marks value kind stands own.1 sound)
+]
+
+closed_more : (kinds : List Kind) (marks : List Bool) (value : ℕ) (kind : Kind) → slice_get kinds value ≡ Some kind
+    → closed_at marks value kind ≡ true → ((v : ℕ) (k : Kind) → v < value → slice_get kinds v ≡ Some k → closed_at marks v k ≡ true)
+    → (v : ℕ) (k : Kind) → v < value + 1 → slice_get kinds v ≡ Some k → closed_at marks v k ≡ true
+closed_more kinds marks value kind stands here before v k below is = elim (cases_below v value below) [
+  | inl earlier ↦ before v k earlier is
+  | inr same ↦
+      let there : slice_get kinds value ≡ Some k = subst (λ (w : ℕ). slice_get kinds w ≡ Some k) same is in
+      ap (λ (w : ℕ). closed_at marks w k) same ∙ ap (λ (j : Kind). closed_at marks value j) (same_Some k kind (sym there ∙ stands)) ∙ here
+]
+
+pub spread_more : {A : Type 0} (seen : A → Kind) (xs : List A) (value : ℕ) (d : A) (marks new : List Bool) → value < length xs
+    → ((v : ℕ) → Marked marks v → DerivedIn (map seen xs) v)
+    → ((v : ℕ) → Marked new v → Marked marks v ⊎ ((v ≡ value) × (kind_merged marks (seen (get_or xs value d)) ≡ true)))
+    → (v : ℕ) → Marked new v → DerivedIn (map seen xs) v
+spread_more seen xs value d marks new below sound each =
+    let stands = get_map seen xs value (get_or xs value d) (slice_get-get_or xs value d below) in
+    sound_more (map seen xs) marks new value (seen (get_or xs value d)) stands sound each
+
+pub closed_next : {A : Type 0} (seen : A → Kind) (xs : List A) (value : ℕ) (d : A) (marks : List Bool) → value < length xs
+    → closed_at marks value (seen (get_or xs value d)) ≡ true
+    → ((v : ℕ) (k : Kind) → v < value → slice_get (map seen xs) v ≡ Some k → closed_at marks v k ≡ true)
+    → (v : ℕ) (k : Kind) → v < value + 1 → slice_get (map seen xs) v ≡ Some k → closed_at marks v k ≡ true
+closed_next seen xs value d marks below here before =
+    let stands = get_map seen xs value (get_or xs value d) (slice_get-get_or xs value d below) in
+    closed_more (map seen xs) marks value (seen (get_or xs value d)) stands here before
+
+use_marked : (marks : List Bool) (values : List ℕ) (value : ℕ) → Contains values value → Marked marks value → list_any (has_mark marks) values ≡ true
+use_marked marks [] value there marked = absurd (contains_none value there)
+use_marked marks (first ∷ values) value there marked = elim (contains_cons first value values there) [
+  | inl same ↦
+      let here : has_mark marks first ≡ true = get_or_from_slice_get marks first true false (subst (Marked marks) (sym same) marked) in
+      rw here refl
+  | inr later ↦ or_true (has_mark marks first) (list_any (has_mark marks) values) (use_marked marks values value later marked)
+]
+  where
+    or_true : (one other : Bool) → other ≡ true → (one || other) ≡ true
+    or_true true other is = refl
+    or_true false other is = is
+
+closed_step : (marks : List Bool) (value : ℕ) → get_or marks value false ≡ true → Marked marks value
+closed_step [] value is = absurd (false≢true is)
+closed_step (mark ∷ marks) zero is = ap (λ (m : Bool). Some m) is
+closed_step (mark ∷ marks) (suc value) is = closed_step marks value is
+
+closed_merge : (mark any : Bool) → (mark || not any) ≡ true → any ≡ true → mark ≡ true
+closed_merge true any is used = refl
+closed_merge false true is used = absurd (false≢true is)
+closed_merge false false is used = absurd (false≢true used)
+
+-- sound marks that are closed are those of the derived values
+pub closed_marks : (kinds : List Kind) (marks : List Bool) → length marks ≡ length kinds → ((v : ℕ) → Marked marks v → DerivedIn kinds v)
+    → ((v : ℕ) (kind : Kind) → slice_get kinds v ≡ Some kind → closed_at marks v kind ≡ true) → AreMarks kinds marks
+closed_marks kinds marks whole sound closed = record { whole = whole; sound = sound; complete = complete }
+  where
+    complete : (v : ℕ) → DerivedIn kinds v → Marked marks v
+    complete _ (at_step value at) = closed_step marks value (closed value (steps at.before) at.stands)
+    complete _ (at_use value user used derived) =
+        let before = complete value derived in
+        closed_step marks user
+        (closed_merge (has_mark marks user) (any_marked marks used.operands) (closed user (merges used.operands) used.stands)
+        (use_marked marks (filter_map value_in used.operands) value used.used before))

@@ -1,11 +1,12 @@
 -- The users of values, by number, and the marks that a search along them leaves.
-use Rattle.std.specs.Prelude.{◌≡◌, ℕ, ◌<◌, ◌⊎◌, Bool, List, [], ◌∷◌, ◌++◌, length, Option, Some, slice_get}
+use Rattle.std.specs.Prelude.{◌≡◌, ℕ, ◌<◌, ◌⊎◌, Bool, true, false, not, ◌||◌, List, [], ◌∷◌, ◌++◌, length, Option, Some, slice_get}
 use Rattle.std.specs.List.{Contains, filter_map}
 use Rattle.graph_search.specs.Edges.{Edge}
-use Rattle.graph_search.specs.Paths.{MarksReached}
+use Rattle.graph_search.specs.Paths.{Marked}
 use Rattle.ir_ast.specs.declared.ops.Operand.{Operand}
 use Rattle.ir_ast.specs.Operands.{value_in}
-use Rattle.base_tables.specs.Kinds.{Kind, steps, merges}
+use Rattle.base_forms.specs.DerivedMarks.{has_mark}
+use Rattle.base_tables.specs.Kinds.{Kind, steps, merges, any_marked}
 
 -- the user is added to those of these values, as far as the values have rows
 pub record AddsUsers (values : List ℕ) (user : ℕ) (old new : List (List ℕ)) : Type 0 where
@@ -38,9 +39,23 @@ pub record AreSources (kinds : List Kind) (count : ℕ) (found : List ℕ) (user
   pub use_found : (value user : ℕ) → Edge users value user → (user < count) × UsedBy kinds value user
   pub use_kept : (value user : ℕ) → user < count → UsedBy kinds value user → value < length kinds → Edge users value user
 
--- the marks of a search from the steps along the users
+-- the values that are derived, by the kinds: the steps, and the phis and selects that use one of them
+pub data DerivedIn (kinds : List Kind) : ℕ → Type 0 where
+  at_step : (value : ℕ) → StepsAt kinds value → DerivedIn kinds value
+  at_use : (value user : ℕ) → UsedBy kinds value user → DerivedIn kinds value → DerivedIn kinds user
+
+-- a mark for each value, on those that are derived
 pub record AreMarks (kinds : List Kind) (marks : List Bool) : Type 0 where
-  pub found : List ℕ
-  pub users : List (List ℕ)
-  pub sources : AreSources kinds (length kinds) found users
-  pub reached : MarksReached users found marks
+  pub whole : length marks ≡ length kinds
+  pub sound : (value : ℕ) → Marked marks value → DerivedIn kinds value
+  pub complete : (value : ℕ) → DerivedIn kinds value → Marked marks value
+
+abbrev pub kind_steps : Kind → Bool
+kind_steps (steps before) = true
+kind_steps kind = false
+
+-- a step has a mark, and a phi or select that uses a value with a mark
+abbrev pub closed_at : List Bool → ℕ → Kind → Bool
+closed_at marks value (steps before) = has_mark marks value
+closed_at marks value (merges operands) = has_mark marks value || not (any_marked marks operands)
+closed_at marks value kind = true

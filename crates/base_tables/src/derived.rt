@@ -1,14 +1,17 @@
 //! Derived values (Garbage Collection Safepoints in LLVM, "Base & Derived Pointers"): a search from the
 //! `getelementptr`s along the uses by phis and selects.
 
-ghost use Rattle.std.specs.Prelude.{◌≡◌, ◌<◌, [], ◌∷◌, ◌++◌, replicate, length, map, slice_index_or, slice_set, IfOk};
+ghost use Rattle.std.specs.Prelude.{◌≡◌, ◌<◌, ◌⊎◌, ℕ, true, Some, [], ◌∷◌, ◌++◌, replicate, length, map, slice_get, slice_index_or, slice_set, IfOk};
 ghost use Rattle.std.specs.List.{filter_map};
 ghost use Rattle.std.specs.Option.{option_to_list};
 ghost use Rattle.ir_ast.specs.Operands.{value_in};
 ghost use Rattle.base_tables.specs.Seen.{seen_shape};
-ghost use Rattle.base_tables.specs.Users.{AddsUsers, Notes, AreSources, AreMarks};
+ghost use Rattle.graph_search.specs.Paths.{Marked};
+ghost use Rattle.base_tables.specs.Kinds.{Kind, kind_merged};
+ghost use Rattle.base_tables.specs.Users.{AddsUsers, Notes, AreSources, DerivedIn, AreMarks, kind_steps, closed_at};
 
 use crate::shapes::Shape;
+use crate::tables::{any_marked, is_merged, mark_at};
 use graph_search::{Edges, reached_from};
 use ir_ast::Operand;
 use sp_ids::Memory;
@@ -40,6 +43,80 @@ impl Edges for Sources {
 
 /// For each value whether it is derived.
 pub(crate) fn derived(alloc: Global, shapes: &[Shape<'_>]) -> Result<Vec<bool>, Memory>
+    ensures { IfOk result (λ marks. AreMarks (map seen_shape shapes.now) marks.items) }
+{
+    let marks = spread(alloc, shapes)?;
+    if is_closed(shapes, marks.as_slice()) {
+        return Ok(marks);
+    }
+    searched(alloc, shapes)
+}
+
+// Marks on the steps, and in the order of the values on each phi and select that uses a marked one.
+fn spread(alloc: Global, shapes: &[Shape<'_>]) -> Result<Vec<bool>, Memory>
+    ensures whole { IfOk result (λ marks. length marks.items ≡ length shapes.now) }
+    ensures sound { IfOk result (λ marks. (value : ℕ) → Marked marks.items value → DerivedIn (map seen_shape shapes.now) value) }
+{
+    let mut marks = step_marks(alloc, shapes)?;
+    for (value, shape) in shapes.iter().enumerate() {
+        mark_merge(&mut marks, value, shape);
+    }
+    Ok(marks)
+}
+
+fn step_marks(alloc: Global, shapes: &[Shape<'_>]) -> Result<Vec<bool>, Memory>
+    ensures { IfOk result (λ marks. marks.items ≡ map kind_steps (map seen_shape shapes.now)) }
+{
+    let mut marks = Vec::with_capacity(alloc, shapes.len())?;
+    for shape in shapes {
+        marks.push(is_step(shape))?;
+    }
+    Ok(marks)
+}
+
+fn is_step(shape: &Shape<'_>) -> bool
+    ensures { result ≡ kind_steps (seen_shape shape.now) }
+{
+    match shape {
+        Shape::Step(_) => true,
+        Shape::Merge(_) | Shape::Unequal(_) | Shape::Plain => false,
+    }
+}
+
+fn mark_merge(marks: &mut Vec<bool>, value: usize, shape: &Shape<'_>)
+    requires { value < length marks.old.items }
+    ensures whole { length marks.new.items ≡ length marks.old.items }
+    ensures each { (v : ℕ) → Marked marks.new.items v → Marked marks.old.items v ⊎ ((v ≡ value) × (kind_merged marks.old.items (seen_shape shape.now) ≡ true)) }
+{
+    if is_merged(marks.as_slice(), shape) {
+        marks[value] = true;
+    }
+}
+
+// Whether marks that were spread in order are those of the derived values.
+fn is_closed(shapes: &[Shape<'_>], marks: &[bool]) -> bool
+    ensures { result ≡ true → (value : ℕ) (kind : Kind) → slice_get (map seen_shape shapes.now) value ≡ Some kind → closed_at marks.now value kind ≡ true }
+{
+    for (value, shape) in shapes.iter().enumerate() {
+        if !is_closed_at(marks, value, shape) {
+            return false;
+        }
+    }
+    true
+}
+
+fn is_closed_at(marks: &[bool], value: usize, shape: &Shape<'_>) -> bool
+    ensures { result ≡ closed_at marks.now value (seen_shape shape.now) }
+{
+    match shape {
+        Shape::Step(_) => mark_at(marks, value),
+        Shape::Merge(operands) => mark_at(marks, value) || !any_marked(marks, operands),
+        Shape::Unequal(_) | Shape::Plain => true,
+    }
+}
+
+// The marks by a search along the uses.
+fn searched(alloc: Global, shapes: &[Shape<'_>]) -> Result<Vec<bool>, Memory>
     ensures { IfOk result (λ marks. AreMarks (map seen_shape shapes.now) marks.items) }
 {
     let found = sources_of(alloc, shapes)?;
@@ -79,7 +156,7 @@ fn note_shape(
 fn no_users(alloc: Global, count: usize) -> Result<Vec<Vec<usize>>, AllocError>
     ensures { IfOk result (λ users. map (λ row. row.items) users.items ≡ replicate count []) }
 {
-    let mut users = Vec::new(alloc);
+    let mut users = Vec::with_capacity(alloc, count)?;
     for _ in 0..count {
         users.push(Vec::new(alloc))?;
     }

@@ -1,6 +1,6 @@
 //! The way back from each value along `getelementptr`s.
 
-ghost use Rattle.std.specs.Prelude.{◌≡◌, ◌<◌, ◌^◌, length, map, IfOk};
+ghost use Rattle.std.specs.Prelude.{◌≡◌, ◌<◌, ◌^◌, length, map, slice_get, IfOk, IfSome};
 ghost use Rattle.std.specs.List.{range_with_len};
 ghost use Rattle.base_tables.specs.Kinds.{stepped_in, origin_in};
 ghost use Rattle.base_tables.specs.Seen.{seen_shape};
@@ -11,9 +11,70 @@ use ir_ast::Operand;
 use sp_ids::{Memory, ValueId};
 use std::alloc::Global;
 
-/// The first on the way back from each value that is no `getelementptr`. Each value is gone over once, since a way back ends
-/// at the first value whose origin was found.
+/// The first on the way back from each value that is no `getelementptr`.
 pub(crate) fn origins(alloc: Global, shapes: &[Shape<'_>]) -> Result<Vec<Operand>, Memory>
+    requires { length shapes.now < 2 ^ 32 }
+    ensures { IfOk result (λ origins. origins.items ≡ map (λ value. origin_in (map seen_shape shapes.now) (named value)) (range_with_len 0 (length shapes.now))) }
+{
+    match in_order(alloc, shapes)? {
+        Some(all) => Ok(all),
+        None => in_any_order(alloc, shapes),
+    }
+}
+
+// The origins where no `getelementptr` steps from a later value.
+fn in_order(alloc: Global, shapes: &[Shape<'_>]) -> Result<Option<Vec<Operand>>, Memory>
+    requires { length shapes.now < 2 ^ 32 }
+    ensures { IfOk result (λ found. IfSome found (λ origins.
+        origins.items ≡ map (λ value. origin_in (map seen_shape shapes.now) (named value)) (range_with_len 0 (length shapes.now)))) }
+{
+    let mut all = Vec::with_capacity(alloc, shapes.len())?;
+    for value in 0..shapes.len() {
+        match origin_after(shapes, all.as_slice(), value) {
+            None => return Ok(None),
+            Some(origin) => all.push(origin)?,
+        }
+    }
+    Ok(Some(all))
+}
+
+// The origin of a value, given those of all before it, unless it steps from a later one.
+fn origin_after(shapes: &[Shape<'_>], before: &[Operand], value: usize) -> Option<Operand>
+    requires few { value < 2 ^ 32 }
+    requires before { before.now ≡ map (λ value. origin_in (map seen_shape shapes.now) (named value)) (range_with_len 0 value) }
+    ensures { IfSome result (λ origin. origin ≡ origin_in (map seen_shape shapes.now) (named value)) }
+{
+    let own = Operand::Value(ValueId(value as u32));
+    match stepped_from(shapes, own) {
+        None => Some(own),
+        Some(operand) => origin_among(shapes, before, value, operand),
+    }
+}
+
+// The origin of an operand, given those of all values before one, unless it is that one or a later one.
+fn origin_among(
+    shapes: &[Shape<'_>],
+    before: &[Operand],
+    value: usize,
+    operand: Operand,
+) -> Option<Operand>
+    requires { before.now ≡ map (λ value. origin_in (map seen_shape shapes.now) (named value)) (range_with_len 0 value) }
+    ensures { IfSome result (λ origin. origin ≡ origin_in (map seen_shape shapes.now) operand) }
+{
+    match operand {
+        Operand::Value(earlier) => item_at(before, earlier.0 as usize),
+        Operand::Int(_) | Operand::Null | Operand::Fun(_) => Some(operand),
+    }
+}
+
+fn item_at(items: &[Operand], place: usize) -> Option<Operand>
+    ensures { result ≡ slice_get items.now place }
+{
+    items.get(place).copied()
+}
+
+// Each value is gone over once, since a way back ends at the first value whose origin was found.
+fn in_any_order(alloc: Global, shapes: &[Shape<'_>]) -> Result<Vec<Operand>, Memory>
     requires { length shapes.now < 2 ^ 32 }
     ensures { IfOk result (λ origins. origins.items ≡ map (λ value. origin_in (map seen_shape shapes.now) (named value)) (range_with_len 0 (length shapes.now))) }
 {

@@ -28,7 +28,7 @@ pub(crate) fn shapes(alloc: Global, func: &Func) -> Result<Vec<Shape<'_>>, Memor
     ensures kinds { IfOk result (λ shapes. map seen_shape shapes.items ≡ map kind_of (definitions_of func.now.content)) }
     ensures few { IfOk result (λ shapes. length shapes.items < 2 ^ 31) }
 {
-    let mut shapes = Vec::new(alloc);
+    let mut shapes = Vec::with_capacity(alloc, room(func))?;
     for _arg in func.args() {
         shapes.push(Shape::Plain)?;
     }
@@ -36,6 +36,15 @@ pub(crate) fn shapes(alloc: Global, func: &Func) -> Result<Vec<Shape<'_>>, Memor
         add_shapes(block, &mut shapes)?;
     }
     Ok(shapes)
+}
+
+// Room for as many values as the function can have.
+fn room(func: &Func) -> usize {
+    let mut room = func.args().len();
+    for block in func.blocks() {
+        room = room.saturating_add(block.insts().len());
+    }
+    room
 }
 
 fn add_shapes<'a>(block: &'a Block, shapes: &mut Vec<Shape<'a>>) -> Result<(), Memory>

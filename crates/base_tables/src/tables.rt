@@ -198,13 +198,15 @@ fn number_at(numbers: &[u32], place: usize) -> u32
     numbers.get(place).copied().unwrap_or(0)
 }
 
-fn mark_at(marks: &[bool], place: usize) -> bool
+/// The mark at a place, where there is one.
+pub(crate) fn mark_at(marks: &[bool], place: usize) -> bool
     ensures { result ≡ slice_index_or marks.now place false }
 {
     marks.get(place).copied().unwrap_or(false)
 }
 
-fn any_marked(marks: &[bool], operands: &[Operand]) -> bool
+/// Whether one of these operands is a marked value.
+pub(crate) fn any_marked(marks: &[bool], operands: &[Operand]) -> bool
     ensures { result ≡ any_marked marks.now operands.now }
 {
     for operand in operands {
@@ -250,7 +252,8 @@ fn either(one: bool, other: bool) -> bool
     one || other
 }
 
-fn is_merged(marks: &[bool], shape: &Shape<'_>) -> bool
+/// Whether it is a phi or select that uses a marked value.
+pub(crate) fn is_merged(marks: &[bool], shape: &Shape<'_>) -> bool
     ensures { result ≡ kind_merged marks.now (seen_shape shape.now) }
 {
     match shape {

@@ -19,3 +19,5 @@ pub mod KeepsTypes
 pub mod KeepsNames
 pub mod KeepsDerived
 pub mod KeepsSource
+pub mod KeepsAll
+pub mod FollowLemmas

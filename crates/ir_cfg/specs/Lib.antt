@@ -10,6 +10,7 @@ pub mod SourceModules
 pub mod TargetModules
 pub mod Turned
 pub mod Filled
+pub mod Followed
 pub mod Marks
 pub mod Cfgs
 pub mod Unreached

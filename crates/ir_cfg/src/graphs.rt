@@ -19,8 +19,8 @@ pub(crate) fn edges(alloc: Global, func: &Func) -> Result<Rows, Memory>
     Ok(rows)
 }
 
-// The labels of the terminator.
-fn edges_of(block: &Block) -> &[BlockId]
+/// The labels of the terminator.
+pub(crate) fn edges_of(block: &Block) -> &[BlockId]
     ensures { result.now ≡ targets block.now }
 {
     match block.insts().last() {

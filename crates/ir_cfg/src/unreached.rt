@@ -6,7 +6,7 @@ ghost use Rattle.std.specs.List.{All, AllZip};
 ghost use Rattle.ir_cfg.specs.SourceModules.{IsSourceModule};
 
 use crate::graphs::edges;
-use crate::reach::marks;
+use crate::reach::{follow, marks};
 use crate::renumber::{self, Renumber, mark_at};
 use ir_ast::{Block, Func, Module};
 use sp_ids::Memory;
@@ -31,7 +31,7 @@ fn all_without(alloc: Global, funcs: Vec<Func>) -> Result<Vec<Func>, Memory>
     ensures lines { IfOk result (λ kept. map lines_of kept.items ≡ map zeros_of (map content_of kept.items)) }
     ensures count { IfOk result (λ kept. length kept.items ≡ length funcs.items) }
 {
-    let mut kept = Vec::new(alloc);
+    let mut kept = Vec::with_capacity(alloc, funcs.len())?;
     for func in funcs {
         kept.push(without_unreached(alloc, func)?)?;
     }
@@ -39,6 +39,26 @@ fn all_without(alloc: Global, funcs: Vec<Func>) -> Result<Vec<Func>, Memory>
 }
 
 fn without_unreached(alloc: Global, func: Func) -> Result<Func, Memory>
+    requires { IsFormed func.content }
+    ensures drops { IfOk result (λ after. DropsUnreached func.content after.content) }
+    ensures lines { IfOk result (λ after. after.lines ≡ zeros_of after.content) }
+{
+    if follow(alloc, &func)? {
+        return Ok(unlined(func));
+    }
+    renumbered(alloc, func)
+}
+
+// The same function; each line is 0.
+fn unlined(func: Func) -> Func
+    ensures content { result.content ≡ func.content }
+    ensures lines { result.lines ≡ zeros_of func.content }
+{
+    let (name, answer, args, blocks) = func.into_parts();
+    Func::of(name, answer, args, blocks)
+}
+
+fn renumbered(alloc: Global, func: Func) -> Result<Func, Memory>
     requires { IsFormed func.content }
     ensures drops { IfOk result (λ after. DropsUnreached func.content after.content) }
     ensures lines { IfOk result (λ after. after.lines ≡ zeros_of after.content) }

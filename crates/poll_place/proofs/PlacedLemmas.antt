@@ -1,5 +1,5 @@
 -- Lists of lines with polls.
-use Rattle.std.proofs.Common.{◌≡◌, ◌∙◌, ℕ, zero, suc, ◌+◌, ◌-◌, ◌*◌, ◌<◌, ◌≤◌, ◌^◌, Bool, true, false, not, if◌then◌else◌, List, [], ◌∷◌, ◌++◌, length, get_or, map, take, Option, Some, refl, ap, arith, append_assoc}
+use Rattle.std.proofs.Common.{◌≡◌, ◌∙◌, ℕ, zero, suc, ◌+◌, ◌-◌, ◌*◌, ◌<◌, ◌≤◌, ◌^◌, Bool, true, false, not, if◌then◌else◌, List, [], ◌∷◌, ◌++◌, length, get_or, map, take, Option, Some, slice_get, refl, ap, sym, arith, append_assoc}
 use Rattle.std.specs.Option.{option_to_list}
 use Rattle.std.specs.List.{flat_map, list_all, All}
 use Rattle.std.proofs.Math.Seq.{take-append_seam, get_or-append_seam}
@@ -7,6 +7,8 @@ use Rattle.std.proofs.lemmas.List.{length-append}
 use Rattle.std.proofs.lemmas.List.Folds.{list_all-append}
 use Rattle.std.proofs.lemmas.List.Elements.{All-nil, All-cons, All-head, All-tail}
 use Rattle.std.proofs.lemmas.Grind.{flat_map-append}
+use Rattle.std.proofs.lemmas.Option.{same_Some}
+use Rattle.list_laws.proofs.Places.{get_middle}
 use Rattle.ir_ast.specs.declared.funcs.Arg.{Arg}
 use Rattle.ir_ast.specs.Insts.{Instruction}
 use Rattle.ir_ast.specs.Blocks.{BasicBlock, EndsAtTerminator}
@@ -52,6 +54,24 @@ pub polled_end : (number : ℕ) (insts left : List Instruction) (taken : Option 
 polled_end number insts left taken ends rest value =
     rw ends.whole
     (polled_behind number ends.before left ends.last taken ends.inside (rw ends.whole at rest) (rw ends.whole at value))
+
+polled_not : (number : ℕ) (inst : Instruction) → retreats number inst ≡ false → polled number inst ≡ inst ∷ []
+polled_not number inst not = rw not refl
+
+-- a block whose last instruction doesn't lead back has no poll before it
+pub none_back : (number : ℕ) (insts : List Instruction) (last : Instruction) → EndsAtTerminator insts
+    → slice_get insts (length insts - 1) ≡ Some last → retreats number last ≡ false → flat_map (polled number) insts ≡ insts
+none_back number insts last ends found not =
+    let place : length insts - 1 ≡ length ends.before = omega (arith, length-append ends.before (ends.last ∷ []), ap length ends.whole) in
+    let whole = ends.whole in
+    let there : slice_get insts (length ends.before) ≡ Some ends.last = rw whole (get_middle ends.before ends.last []) in
+    let at : slice_get insts (length ends.before) ≡ Some last = rw (← place) found in
+    let same : ends.last ≡ last = same_Some ends.last last (sym there ∙ at) in
+    let stays : retreats number ends.last ≡ false = rw same not in
+    ap (flat_map (polled number)) whole ∙ flat_map-append (polled number) ends.before (ends.last ∷ [])
+    ∙ ap (λ (front : List Instruction). front ++ flat_map (polled number) (ends.last ∷ [])) (inside_plain number ends.before ends.inside)
+    ∙ ap (λ (end : List Instruction). ends.before ++ (end ++ [])) (polled_not number ends.last stays)
+    ∙ sym whole
 
 polls_pass_by : (polls : Bool) → list_all passes_by (if polls then poll_call ∷ [] else []) ≡ true
 polls_pass_by true = refl

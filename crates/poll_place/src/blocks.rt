@@ -1,4 +1,4 @@
-ghost use Rattle.std.specs.Prelude.{◌≡◌, ◌++◌, IfOk, nat_le};
+ghost use Rattle.std.specs.Prelude.{◌≡◌, ◌++◌, false, IfOk, nat_le};
 ghost use Rattle.std.specs.Option.{option_to_list};
 ghost use Rattle.std.specs.List.{flat_map, list_any};
 ghost use Rattle.ir_ast.specs.Blocks.{EndsAtTerminator};
@@ -25,8 +25,22 @@ fn with_poll_at_end(alloc: Global, number: usize, mut insts: Vec<Inst>) -> Resul
     requires { EndsAtTerminator insts.items }
     ensures { IfOk result (λ after. after.items ≡ flat_map (polled number) insts.items) }
 {
+    if !ends_back(number, insts.as_slice()) {
+        return Ok(insts);
+    }
     let last = insts.pop();
     push_last(alloc, number, last, insts)
+}
+
+// Whether the last of these instructions leads back.
+fn ends_back(number: usize, insts: &[Inst]) -> bool
+    requires { EndsAtTerminator insts.now }
+    ensures { result ≡ false → flat_map (polled number) insts.now ≡ insts.now }
+{
+    match insts.last() {
+        Some(inst) => retreats(number, inst),
+        None => false,
+    }
 }
 
 fn push_last(
@@ -58,19 +72,19 @@ fn push_polled(
     Ok(())
 }
 
-// In a new list of the known size, since each line moves.
-fn with_poll_at_front(alloc: Global, number: usize, insts: Vec<Inst>) -> Result<Vec<Inst>, Memory>
+fn with_poll_at_front(
+    alloc: Global,
+    number: usize,
+    mut insts: Vec<Inst>,
+) -> Result<Vec<Inst>, Memory>
     ensures { IfOk result (λ after. after.items ≡ front_poll number ++ insts.items) }
 {
     if number > 0 {
         return Ok(insts);
     }
-    let mut all = Vec::with_capacity(alloc, insts.len() + 1)?;
-    all.push(poll(alloc))?;
-    for inst in insts {
-        all.push(inst)?;
-    }
-    Ok(all)
+    insts.reserve_exact(1)?;
+    insts.insert(0, poll(alloc))?;
+    Ok(insts)
 }
 
 // `call void @gc.safepoint_poll()`

@@ -4,5 +4,5 @@ use Rattle.base_infer.proofs.functions.insert_in.Goals as goal
 
 pub of-requires : goal.of-requires
 of-requires c =
-    rw c.in_ok-lines.ensures
+    rw c.in_ok-lines.ensures.lines
     (ends_based (tabled c.args.tables.now) c.args.next c.into_parts-name.result.1.items (rw c.into_parts-name.ensures.insts c.into_parts-name.ensures.ends))

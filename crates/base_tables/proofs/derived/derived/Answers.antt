@@ -1,17 +1,13 @@
-use Rattle.std.proofs.Common.{ℕ, List, sym, subst}
+use Rattle.std.proofs.Common.{◌≡◌, ◌∙◌, Bool, List, true, sym, subst}
 use Rattle.std.specs.Prelude.{map}
 use Rattle.std.proofs.lemmas.List.{length-map}
-use Rattle.graph_search.specs.Edges.{AreInside}
 use Rattle.base_tables.specs.Seen.{seen_shape}
-use Rattle.base_tables.proofs.UserLemmas.{sources_inside}
+use Rattle.base_tables.specs.Users.{closed_at}
+use Rattle.base_tables.proofs.UserLemmas.{closed_marks}
 use Rattle.base_tables.proofs.derived.derived.Goals as goal
 
-pub reached_from-requires : goal.reached_from-requires
-reached_from-requires c =
-    let kinds = map seen_shape c.args.shapes.now in
-    let steps = c.in_ok-found.found.steps.items in
-    let users = map (λ row. row.items) c.in_ok-found.found.users.items in
-    record {
-      inside = subst (λ (xs : List ℕ). AreInside users xs) (sym c.as_slice.ensures.value)
-          (sources_inside kinds _ steps users (sym (length-map c.args.shapes.now seen_shape)) c.in_ok-found.ensures);
-    }
+pub returns-then-is_closed : goal.returns-then-is_closed
+returns-then-is_closed c =
+    closed_marks (map seen_shape c.args.shapes.now) c.in_ok-marks.marks.items (c.in_ok-marks.ensures.whole ∙ sym (length-map c.args.shapes.now seen_shape))
+    c.in_ok-marks.ensures.sound
+    (λ v kind stands. subst (λ (ms : List Bool). closed_at ms v kind ≡ true) c.as_slice.ensures.value (c.is_closed.ensures c.if-is_closed.true v kind stands))

@@ -4,7 +4,7 @@ use Rattle.std.specs.List.{range_with_len}
 use Rattle.base_tables.specs.Kinds.{origin_in}
 use Rattle.base_tables.specs.Origins.{named, AreFound}
 use Rattle.base_tables.specs.Seen.{seen_shape}
-use Rattle.base_tables.proofs.origins.origins.Given as goal
+use Rattle.base_tables.proofs.origins.in_any_order.Given as goal
 
 abbrev pub invariant-loop-value : goal.invariant-loop-value
 invariant-loop-value l = record {

@@ -6,7 +6,7 @@ use Rattle.ir_ast.specs.declared.ops.Operand.{Operand}
 use Rattle.base_tables.specs.Kinds.{origin_in}
 use Rattle.base_tables.specs.Origins.{named}
 use Rattle.base_tables.specs.Seen.{seen_shape}
-use Rattle.base_tables.proofs.origins.origins.Goals as goal
+use Rattle.base_tables.proofs.origins.in_any_order.Goals as goal
 
 pub loop-value-preserved : goal.loop-value-preserved
 loop-value-preserved c =

@@ -2,7 +2,7 @@ use Rattle.std.proofs.Common.{◌≡◌, ◌≤◌, ◌+◌, length}
 use Rattle.object_meaning.specs.Lines.{after_all}
 use Rattle.base_forms.specs.Lines.{based_insts}
 use Rattle.base_tables.specs.Tables.{tabled}
-use Rattle.base_infer.proofs.functions.all_lines.Given as goal
+use Rattle.base_infer.proofs.functions.with_more_lines.Given as goal
 
 abbrev pub invariant-loop-inst : goal.invariant-loop-inst
 invariant-loop-inst l = record {
