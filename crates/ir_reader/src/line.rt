@@ -11,7 +11,7 @@ use crate::limits::{answer_fits, counted_as, reading_fits};
 use crate::states::{Counted, Place, State};
 use line_forms::{DroppedLine, Form, Reading, opened_form, whole_dropped, whole_kept};
 use line_parts::{Cursor, TypeWord};
-use sp_text::Line;
+use sp_text::{Line, Token};
 use std::alloc::Global;
 
 /// What a line says, and what is known behind it.
@@ -73,12 +73,18 @@ impl<'a> Step<'a> {
 
     // A line of tokens.
     #[tactic(auto, unfolding(crate::specs::Text::tokens_outcome))]
-    fn of_tokens(alloc: Global, state: State, line: Line<'a>) -> Result<Option<Step<'a>>, LineFault>
+    fn of_tokens(
+        alloc: Global,
+        state: State,
+        line: Line<'a>,
+        room: &mut [Token<'a>],
+    ) -> Result<Option<Step<'a>>, LineFault>
         requires { IsTrue (counts_fit state.counts) }
         ensures came { Came result (tokens_outcome state (tokens line.entry.bytes.now)) }
         ensures counts { IfOk result (λ found. IfSome found (λ step. IsTrue (counts_fit step.state.counts))) }
     {
-        let mut cursor = Cursor::of(line);
+        let (count, from) = line.first_tokens(room);
+        let mut cursor = Cursor::of(line, &room[..count], from);
         if cursor.is_at_end() {
             return Ok(None);
         }
@@ -100,9 +106,15 @@ impl<'a> Step<'a> {
         }
     }
 
-    /// What becomes of a line: metadata outside functions, a label, or tokens. Nothing where it is empty or dropped.
+    /// What becomes of a line: metadata outside functions, a label, or tokens, of which the first are found into this
+    /// room. Nothing where it is empty or dropped.
     #[tactic(auto, unfolding(crate::specs::Text::outcome))]
-    pub fn of(alloc: Global, state: State, line: Line<'a>) -> Result<Option<Step<'a>>, LineFault>
+    pub fn of(
+        alloc: Global,
+        state: State,
+        line: Line<'a>,
+        room: &mut [Token<'a>],
+    ) -> Result<Option<Step<'a>>, LineFault>
         requires { IsTrue (counts_fit state.counts) }
         ensures came { Came result (outcome state line.entry.bytes.now) }
         ensures counts { IfOk result (λ found. IfSome found (λ step. IsTrue (counts_fit step.state.counts))) }
@@ -111,7 +123,7 @@ impl<'a> Step<'a> {
             return Ok(None);
         }
         let Some(name) = line.label() else {
-            return Step::of_tokens(alloc, state, line);
+            return Step::of_tokens(alloc, state, line, room);
         };
         match state.place.behind_label() {
             Some(place) => Ok(Some(Step {

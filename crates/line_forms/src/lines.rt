@@ -19,7 +19,7 @@ use line_parts::{Cursor, Stop, TypeWord};
 use std::alloc::Global;
 
 // What a line of this form says.
-fn kept<'a>(cursor: &mut Cursor<'a>, alloc: Global, form: Form) -> Result<Reading<'a>, Stop>
+fn kept<'a>(cursor: &mut Cursor<'_, 'a>, alloc: Global, form: Form) -> Result<Reading<'a>, Stop>
     requires kept { is_dropped_form form ≡ false }
     requires whole { is_operator_form form ≡ false }
     ensures { Gives seen result cursor.new (line_at form cursor.old) }
@@ -49,7 +49,7 @@ fn kept<'a>(cursor: &mut Cursor<'a>, alloc: Global, form: Form) -> Result<Readin
 
 // What a line of this form says from behind its operator on.
 fn operated<'a>(
-    cursor: &mut Cursor<'a>,
+    cursor: &mut Cursor<'_, 'a>,
     alloc: Global,
     form: Form,
     name: &'a [u8],
@@ -74,7 +74,7 @@ fn operated<'a>(
 /// What a whole line of this form says, from where it was opened on ([`opened_form`](crate::opened_form)): `name` is its result, where
 /// the cursor stands behind its operator.
 pub fn whole_kept<'a>(
-    cursor: &mut Cursor<'a>,
+    cursor: &mut Cursor<'_, 'a>,
     alloc: Global,
     form: Form,
     name: Option<&'a [u8]>,
