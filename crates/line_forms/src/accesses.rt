@@ -10,6 +10,7 @@ use line_parts::{Cursor, Stop};
 use line_tokens::{Dropped, Flags};
 use std::alloc::Global;
 
+#[inline(never)]
 pub fn scalar_element<'a>(cursor: &mut Cursor<'_, 'a>, name: &'a [u8]) -> Result<Reading<'a>, Stop>
     ensures { Gives seen result cursor.new (behind_operator Form.ScalarElement name.now cursor.old) }
 {
@@ -31,6 +32,7 @@ pub fn scalar_element<'a>(cursor: &mut Cursor<'_, 'a>, name: &'a [u8]) -> Result
     })
 }
 
+#[inline(never)]
 pub fn layout_element<'a>(cursor: &mut Cursor<'_, 'a>, name: &'a [u8]) -> Result<Reading<'a>, Stop>
     ensures { Gives seen result cursor.new (behind_operator Form.LayoutElement name.now cursor.old) }
 {
@@ -54,6 +56,7 @@ pub fn layout_element<'a>(cursor: &mut Cursor<'_, 'a>, name: &'a [u8]) -> Result
     })
 }
 
+#[inline(never)]
 pub fn load<'a>(cursor: &mut Cursor<'_, 'a>, name: &'a [u8]) -> Result<Reading<'a>, Stop>
     ensures { Gives seen result cursor.new (behind_operator Form.Load name.now cursor.old) }
 {
@@ -70,6 +73,7 @@ pub fn load<'a>(cursor: &mut Cursor<'_, 'a>, name: &'a [u8]) -> Result<Reading<'
     })
 }
 
+#[inline(never)]
 pub fn store<'a>(cursor: &mut Cursor<'_, 'a>) -> Result<Reading<'a>, Stop>
     ensures { Gives seen result cursor.new (line_at Form.Store cursor.old) }
 {
@@ -84,6 +88,7 @@ pub fn store<'a>(cursor: &mut Cursor<'_, 'a>) -> Result<Reading<'a>, Stop>
     Ok(Reading::Store { ty, value, address })
 }
 
+#[inline(never)]
 pub fn value_call<'a>(cursor: &mut Cursor<'_, 'a>, alloc: Global) -> Result<Reading<'a>, Stop>
     ensures { Gives seen result cursor.new (line_at Form.ValueCall cursor.old) }
 {
@@ -104,6 +109,7 @@ pub fn value_call<'a>(cursor: &mut Cursor<'_, 'a>, alloc: Global) -> Result<Read
     })
 }
 
+#[inline(never)]
 pub fn void_call<'a>(cursor: &mut Cursor<'_, 'a>, alloc: Global) -> Result<Reading<'a>, Stop>
     ensures { Gives seen result cursor.new (line_at Form.VoidCall cursor.old) }
 {

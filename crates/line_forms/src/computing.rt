@@ -25,7 +25,12 @@ fn conversion_flags(cursor: &mut Cursor, op: Conversion)
     cursor.skip(Dropped::Words(op.flags()));
 }
 
-pub fn binary<'a>(cursor: &mut Cursor<'_, 'a>, name: &'a [u8], op: Binary) -> Result<Reading<'a>, Stop>
+#[inline(never)]
+pub fn binary<'a>(
+    cursor: &mut Cursor<'_, 'a>,
+    name: &'a [u8],
+    op: Binary,
+) -> Result<Reading<'a>, Stop>
     ensures { Gives seen result cursor.new (behind_operator (Form.Binary op) name.now cursor.old) }
 {
     binary_flags(cursor, op);
@@ -43,6 +48,7 @@ pub fn binary<'a>(cursor: &mut Cursor<'_, 'a>, name: &'a [u8], op: Binary) -> Re
     })
 }
 
+#[inline(never)]
 pub fn compare<'a>(cursor: &mut Cursor<'_, 'a>, name: &'a [u8]) -> Result<Reading<'a>, Stop>
     ensures { Gives seen result cursor.new (behind_operator Form.Compare name.now cursor.old) }
 {
@@ -62,6 +68,7 @@ pub fn compare<'a>(cursor: &mut Cursor<'_, 'a>, name: &'a [u8]) -> Result<Readin
     })
 }
 
+#[inline(never)]
 pub fn convert<'a>(
     cursor: &mut Cursor<'_, 'a>,
     name: &'a [u8],
@@ -84,6 +91,7 @@ pub fn convert<'a>(
     })
 }
 
+#[inline(never)]
 pub fn cast<'a>(cursor: &mut Cursor<'_, 'a>, name: &'a [u8], op: Cast) -> Result<Reading<'a>, Stop>
     ensures { Gives seen result cursor.new (behind_operator (Form.Cast op) name.now cursor.old) }
 {
@@ -101,6 +109,7 @@ pub fn cast<'a>(cursor: &mut Cursor<'_, 'a>, name: &'a [u8], op: Cast) -> Result
     })
 }
 
+#[inline(never)]
 pub fn select<'a>(cursor: &mut Cursor<'_, 'a>, name: &'a [u8]) -> Result<Reading<'a>, Stop>
     ensures { Gives seen result cursor.new (behind_operator Form.Select name.now cursor.old) }
 {
@@ -123,7 +132,12 @@ pub fn select<'a>(cursor: &mut Cursor<'_, 'a>, name: &'a [u8]) -> Result<Reading
     })
 }
 
-pub fn phi<'a>(cursor: &mut Cursor<'_, 'a>, name: &'a [u8], alloc: Global) -> Result<Reading<'a>, Stop>
+#[inline(never)]
+pub fn phi<'a>(
+    cursor: &mut Cursor<'_, 'a>,
+    name: &'a [u8],
+    alloc: Global,
+) -> Result<Reading<'a>, Stop>
     ensures { Gives seen result cursor.new (behind_operator Form.Phi name.now cursor.old) }
 {
     let ty = cursor.value_type()?;

@@ -9,6 +9,7 @@ use crate::readings::Reading;
 use line_parts::{Cursor, Stop};
 use line_tokens::Dropped;
 
+#[inline(never)]
 pub fn jump<'a>(cursor: &mut Cursor<'_, 'a>) -> Result<Reading<'a>, Stop>
     ensures { Gives seen result cursor.new (line_at Form.Jump cursor.old) }
 {
@@ -19,6 +20,7 @@ pub fn jump<'a>(cursor: &mut Cursor<'_, 'a>) -> Result<Reading<'a>, Stop>
     Ok(Reading::Jump { label })
 }
 
+#[inline(never)]
 pub fn branch<'a>(cursor: &mut Cursor<'_, 'a>) -> Result<Reading<'a>, Stop>
     ensures { Gives seen result cursor.new (line_at Form.Branch cursor.old) }
 {
@@ -39,6 +41,7 @@ pub fn branch<'a>(cursor: &mut Cursor<'_, 'a>) -> Result<Reading<'a>, Stop>
     })
 }
 
+#[inline(never)]
 pub fn switch<'a>(cursor: &mut Cursor<'_, 'a>) -> Result<Reading<'a>, Stop>
     ensures { Gives seen result cursor.new (line_at Form.Switch cursor.old) }
 {
@@ -56,6 +59,7 @@ pub fn switch<'a>(cursor: &mut Cursor<'_, 'a>) -> Result<Reading<'a>, Stop>
     })
 }
 
+#[inline(never)]
 pub fn case<'a>(cursor: &mut Cursor<'_, 'a>) -> Result<Reading<'a>, Stop>
     ensures { Gives seen result cursor.new (line_at Form.Case cursor.old) }
 {
@@ -71,6 +75,7 @@ pub fn case<'a>(cursor: &mut Cursor<'_, 'a>) -> Result<Reading<'a>, Stop>
     })
 }
 
+#[inline(never)]
 pub fn switch_end<'a>(cursor: &mut Cursor<'_, 'a>) -> Result<Reading<'a>, Stop>
     ensures { Gives seen result cursor.new (line_at Form.SwitchEnd cursor.old) }
 {
@@ -79,6 +84,7 @@ pub fn switch_end<'a>(cursor: &mut Cursor<'_, 'a>) -> Result<Reading<'a>, Stop>
     Ok(Reading::SwitchEnd)
 }
 
+#[inline(never)]
 pub fn return_void<'a>(cursor: &mut Cursor<'_, 'a>) -> Result<Reading<'a>, Stop>
     ensures { Gives seen result cursor.new (line_at Form.ReturnVoid cursor.old) }
 {
@@ -88,6 +94,7 @@ pub fn return_void<'a>(cursor: &mut Cursor<'_, 'a>) -> Result<Reading<'a>, Stop>
     Ok(Reading::ReturnVoid)
 }
 
+#[inline(never)]
 pub fn return_value<'a>(cursor: &mut Cursor<'_, 'a>) -> Result<Reading<'a>, Stop>
     ensures { Gives seen result cursor.new (line_at Form.Return cursor.old) }
 {
@@ -98,6 +105,7 @@ pub fn return_value<'a>(cursor: &mut Cursor<'_, 'a>) -> Result<Reading<'a>, Stop
     Ok(Reading::Return { ty, value })
 }
 
+#[inline(never)]
 pub fn unreachable<'a>(cursor: &mut Cursor<'_, 'a>) -> Result<Reading<'a>, Stop>
     ensures { Gives seen result cursor.new (line_at Form.Unreachable cursor.old) }
 {

@@ -118,6 +118,7 @@ fn point_end<'a>(
 }
 
 #[tactic(auto, unfolding(crate::specs::Seen::line_at, crate::specs::Forms::fit, line_parts::specs::Gives::after))]
+#[inline(never)]
 pub fn statepoint<'a>(cursor: &mut Cursor<'_, 'a>, alloc: Global) -> Result<Reading<'a>, Stop>
     ensures { Gives seen result cursor.new (line_at Form.Statepoint cursor.old) }
 {
@@ -145,6 +146,7 @@ pub fn statepoint<'a>(cursor: &mut Cursor<'_, 'a>, alloc: Global) -> Result<Read
     Ok(Reading::Statepoint { result, call, live })
 }
 
+#[inline(never)]
 pub fn gc_result<'a>(cursor: &mut Cursor<'_, 'a>) -> Result<Reading<'a>, Stop>
     ensures { Gives seen result cursor.new (line_at Form.GcResult cursor.old) }
 {
@@ -166,6 +168,7 @@ pub fn gc_result<'a>(cursor: &mut Cursor<'_, 'a>) -> Result<Reading<'a>, Stop>
     })
 }
 
+#[inline(never)]
 pub fn gc_relocate<'a>(cursor: &mut Cursor<'_, 'a>) -> Result<Reading<'a>, Stop>
     ensures { Gives seen result cursor.new (line_at Form.GcRelocate cursor.old) }
 {

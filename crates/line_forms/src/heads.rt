@@ -12,6 +12,7 @@ use line_parts::{Cursor, Stop, TypeWord};
 use line_tokens::Dropped;
 use std::alloc::Global;
 
+#[inline(never)]
 pub fn layout<'a>(cursor: &mut Cursor<'_, 'a>, alloc: Global) -> Result<Reading<'a>, Stop>
     ensures { Gives seen result cursor.new (line_at Form.Layout cursor.old) }
 {
@@ -24,6 +25,7 @@ pub fn layout<'a>(cursor: &mut Cursor<'_, 'a>, alloc: Global) -> Result<Reading<
     Ok(Reading::Layout { name, fields })
 }
 
+#[inline(never)]
 pub fn declare<'a>(cursor: &mut Cursor<'_, 'a>, alloc: Global) -> Result<Reading<'a>, Stop>
     ensures { Gives seen result cursor.new (line_at Form.Declare cursor.old) }
 {
@@ -40,6 +42,7 @@ pub fn declare<'a>(cursor: &mut Cursor<'_, 'a>, alloc: Global) -> Result<Reading
     })
 }
 
+#[inline(never)]
 pub fn define<'a>(cursor: &mut Cursor<'_, 'a>, alloc: Global) -> Result<Reading<'a>, Stop>
     ensures { Gives seen result cursor.new (line_at Form.Define cursor.old) }
 {
@@ -59,6 +62,7 @@ pub fn define<'a>(cursor: &mut Cursor<'_, 'a>, alloc: Global) -> Result<Reading<
     })
 }
 
+#[inline(never)]
 pub fn close<'a>(cursor: &mut Cursor<'_, 'a>) -> Result<Reading<'a>, Stop>
     ensures { Gives seen result cursor.new (line_at Form.Close cursor.old) }
 {

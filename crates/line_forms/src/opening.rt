@@ -87,7 +87,10 @@ fn declared_form(name: Option<&[u8]>) -> Form
 /// The form of a line of a text in this form: no other form can fit it. Where that is an operator's, the cursor passes
 /// the operator, and the name of the line's result is given beside the form.
 #[tactic(auto, using(crate::proofs::Operators::operator_in), unfolding(crate::specs::Forms::form_in))]
-pub fn opened_form<'a>(cursor: &mut Cursor<'_, 'a>, text: TextForm) -> Option<(Form, Option<&'a [u8]>)>
+pub fn opened_form<'a>(
+    cursor: &mut Cursor<'_, 'a>,
+    text: TextForm,
+) -> Option<(Form, Option<&'a [u8]>)>
     ensures { MatchOption result (form_in text cursor.old ≡ None)
         (λ found. Opens text cursor.old found.0 (option_copied found.1) cursor.new) }
 {

@@ -82,11 +82,7 @@ impl<'t, 'a> Cursor<'t, 'a> {
         ensures { result ≡ tokens line.entry.bytes.now }
     {
         let (_, rest) = line.bytes.split_at(from);
-        Cursor {
-            found,
-            at: 0,
-            rest,
-        }
+        Cursor { found, at: 0, rest }
     }
 
     /// The next token, which is passed. There may be none: the line ends there, or a byte begins no token.

@@ -103,6 +103,7 @@ impl<'a> Line<'a> {
     }
 
     /// Finds the line's first tokens, as many as there is room for: how many, and the place from which the others follow.
+    #[inline(never)]
     pub fn first_tokens(&self, room: &mut [Token<'a>]) -> (usize, usize)
         ensures within { result.0 ≤ length room.new }
         ensures place { result.1 ≤ length self.now.bytes.now }
