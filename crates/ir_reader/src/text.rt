@@ -7,7 +7,6 @@ ghost use Rattle.ir_reader.specs.Raws.{seen_numbered};
 ghost use Rattle.ir_reader.specs.Reads.{TextGives, AfterLine, FaultOfLine};
 
 use crate::faults::{LineFault, ReadFault};
-use crate::line::Step;
 use crate::raw::{NumberedReading, Raw};
 use crate::states::{Counts, Place, State};
 use ir_ast::Form;
@@ -105,19 +104,8 @@ fn read_line<'a>(
     ensures fault { IfErr result (λ fault. FaultOfLine fault line.entry.number (outcome state.old line.entry.bytes.now)) }
     ensures counts { OnOk result (IsTrue (counts_fit state.new.counts)) }
 {
-    match Step::of(alloc, *state, line, room) {
-        Ok(None) => Ok(()),
-        Ok(Some(step)) => {
-            let reading = NumberedReading {
-                line: line.number,
-                reading: step.reading,
-            };
-            if readings.push(reading).is_err() {
-                return Err(ReadFault::Memory);
-            }
-            *state = step.state;
-            Ok(())
-        }
+    match state.read(alloc, line, room, readings) {
+        Ok(()) => Ok(()),
         Err(LineFault::NoReading) => Err(ReadFault::Syntax { line: line.number }),
         Err(LineFault::OverLimit) => Err(ReadFault::Limit { line: line.number }),
         Err(LineFault::Memory) => Err(ReadFault::Memory),
