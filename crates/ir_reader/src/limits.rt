@@ -164,6 +164,7 @@ fn live_fit(live: &[Value]) -> bool
 }
 
 /// Whether all that the line says is within the limits.
+#[inline(never)]
 pub fn reading_fits(reading: &Reading) -> bool
     ensures { result ≡ said_fits (seen reading.now) }
 {
@@ -268,6 +269,7 @@ pub fn reading_fits(reading: &Reading) -> bool
 }
 
 /// What the line counts as.
+#[inline(never)]
 pub fn counted_as(reading: &Reading) -> Counted
     ensures { result ≡ said_counts_as (seen reading.now) }
 {

@@ -1,25 +1,22 @@
 //! One line in its place.
 
-ghost use Rattle.std.specs.Prelude.{◌≡◌, IsTrue, IfOk, IfSome, None};
+ghost use Rattle.std.specs.Prelude.{◌≡◌, IsTrue, IfErr, OnOk, map};
 ghost use Rattle.sp_text.specs.Tokens.{tokens};
 ghost use Rattle.line_forms.specs.Seen.{seen, of_form, dropped_says};
 ghost use Rattle.ir_reader.specs.Limits.{counts_fit};
-ghost use Rattle.ir_reader.specs.Text.{is_top, within, dropped_within, tokens_outcome, outcome};
+ghost use Rattle.ir_reader.specs.Text.{is_top, within, dropped_within, tokens_outcome, outcome, nothing};
+ghost use Rattle.ir_reader.specs.Raws.{seen_numbered};
+ghost use Rattle.ir_reader.specs.Reads.{AfterLine};
+ghost use Rattle.ir_reader.specs.Outcomes.{IsFaultOf};
 
 use crate::faults::LineFault;
 use crate::limits::{answer_fits, counted_as, reading_fits};
+use crate::raw::NumberedReading;
 use crate::states::{Counted, Place, State};
 use line_forms::{DroppedLine, Form, Reading, opened_form, whole_dropped, whole_kept};
 use line_parts::{Cursor, TypeWord};
-use sp_text::Line;
+use sp_text::{Line, Token};
 use std::alloc::Global;
-
-/// What a line says, and what is known behind it.
-#[derive(Drop)]
-pub struct Step<'a> {
-    pub reading: Reading<'a>,
-    pub state: State,
-}
 
 impl Place {
     pub fn is_top(self) -> bool
@@ -32,97 +29,116 @@ impl Place {
     }
 }
 
-impl<'a> Step<'a> {
-    ghost use Rattle.ir_reader.specs.Outcomes.{Came};
-
-    // A reading, if it passes no limit.
-    fn within(
-        state: State,
-        place: Place,
-        reading: Reading<'a>,
-    ) -> Result<Option<Step<'a>>, LineFault>
-        requires { IsTrue (counts_fit state.counts) }
-        ensures came { Came result (within state place (seen reading.entry)) }
-        ensures counts { IfOk result (λ found. IfSome found (λ step. IsTrue (counts_fit step.state.counts))) }
-    {
-        let counts = state.counts.with(counted_as(&reading).in_form(state.form));
-        if reading_fits(&reading) && counts.fit() {
-            Ok(Some(Step {
-                reading,
-                state: State {
-                    form: state.form,
-                    place,
-                    counts,
-                },
-            }))
-        } else {
-            Err(LineFault::OverLimit)
-        }
+// A line that is dropped, if it passes no limit.
+fn dropped(which: DroppedLine, answer: Option<TypeWord>) -> Result<(), LineFault>
+    ensures ok { OnOk result (dropped_within (of_form (Form.Dropped which) (dropped_says which answer)) ≡ nothing) }
+    ensures fault { IfErr result (λ fault. IsFaultOf fault (dropped_within (of_form (Form.Dropped which) (dropped_says which answer)))) }
+{
+    match which {
+        DroppedLine::Family if !answer_fits(answer) => Err(LineFault::OverLimit),
+        _ => Ok(()),
     }
+}
 
-    // A line that is dropped, if it passes no limit.
-    fn dropped(which: DroppedLine, answer: Option<TypeWord>) -> Result<Option<Step<'a>>, LineFault>
-        ensures came { Came result (dropped_within (of_form (Form.Dropped which) (dropped_says which answer))) }
-        ensures none { IfOk result (λ found. found ≡ None) }
+impl State {
+    // Keeps what a line says, if it passes no limit.
+    fn keep<'a>(
+        &mut self,
+        place: Place,
+        line: u32,
+        reading: Reading<'a>,
+        readings: &mut Vec<NumberedReading<'a>>,
+    ) -> Result<(), LineFault>
+        requires { IsTrue (counts_fit self.old.counts) }
+        ensures ok { OnOk result (AfterLine (within self.old place (seen reading.entry)) line self.old self.new
+            (map seen_numbered readings.old.items) (map seen_numbered readings.new.items)) }
+        ensures fault { IfErr result (λ fault. IsFaultOf fault (within self.old place (seen reading.entry))) }
+        ensures counts { OnOk result (IsTrue (counts_fit self.new.counts)) }
     {
-        match which {
-            DroppedLine::Family if !answer_fits(answer) => Err(LineFault::OverLimit),
-            _ => Ok(None),
+        let counts = self.counts.with(counted_as(&reading).in_form(self.form));
+        if !(reading_fits(&reading) && counts.fit()) {
+            return Err(LineFault::OverLimit);
         }
+        if readings.push(NumberedReading { line, reading }).is_err() {
+            return Err(LineFault::Memory);
+        }
+        self.place = place;
+        self.counts = counts;
+        Ok(())
     }
 
     // A line of tokens.
     #[tactic(auto, unfolding(crate::specs::Text::tokens_outcome))]
-    fn of_tokens(alloc: Global, state: State, line: Line<'a>) -> Result<Option<Step<'a>>, LineFault>
-        requires { IsTrue (counts_fit state.counts) }
-        ensures came { Came result (tokens_outcome state (tokens line.entry.bytes.now)) }
-        ensures counts { IfOk result (λ found. IfSome found (λ step. IsTrue (counts_fit step.state.counts))) }
+    fn read_tokens<'a>(
+        &mut self,
+        alloc: Global,
+        line: Line<'a>,
+        room: &mut [Token<'a>],
+        readings: &mut Vec<NumberedReading<'a>>,
+    ) -> Result<(), LineFault>
+        requires { IsTrue (counts_fit self.old.counts) }
+        ensures ok { OnOk result (AfterLine (tokens_outcome self.old (tokens line.entry.bytes.now)) line.entry.number self.old self.new
+            (map seen_numbered readings.old.items) (map seen_numbered readings.new.items)) }
+        ensures fault { IfErr result (λ fault. IsFaultOf fault (tokens_outcome self.old (tokens line.entry.bytes.now))) }
+        ensures counts { OnOk result (IsTrue (counts_fit self.new.counts)) }
     {
-        let mut cursor = Cursor::of(line);
+        let (count, from) = line.first_tokens(room);
+        let mut cursor = Cursor::of(line, &room[..count], from);
         if cursor.is_at_end() {
-            return Ok(None);
+            return Ok(());
         }
-        let Some((form, name)) = opened_form(&mut cursor, state.form) else {
+        let Some((form, name)) = opened_form(&mut cursor, self.form) else {
             return Err(LineFault::NoReading);
         };
-        let Some(place) = state.place.behind(form) else {
+        let Some(place) = self.place.behind(form) else {
             return Err(LineFault::NoReading);
         };
         match form {
             Form::Dropped(which) => {
                 let answer = whole_dropped(&mut cursor, which)?;
-                Step::dropped(which, answer)
+                dropped(which, answer)
             }
             _ => {
                 let reading = whole_kept(&mut cursor, alloc, form, name)?;
-                Step::within(state, place, reading)
+                self.keep(place, line.number, reading, readings)
             }
         }
     }
 
-    /// What becomes of a line: metadata outside functions, a label, or tokens. Nothing where it is empty or dropped.
+    /// Reads a line and keeps what it says: metadata outside functions, a label, or tokens, of which the first are found
+    /// into this room. Nothing is kept of a line that is empty or dropped.
     #[tactic(auto, unfolding(crate::specs::Text::outcome))]
-    pub fn of(alloc: Global, state: State, line: Line<'a>) -> Result<Option<Step<'a>>, LineFault>
-        requires { IsTrue (counts_fit state.counts) }
-        ensures came { Came result (outcome state line.entry.bytes.now) }
-        ensures counts { IfOk result (λ found. IfSome found (λ step. IsTrue (counts_fit step.state.counts))) }
+    pub fn read<'a>(
+        &mut self,
+        alloc: Global,
+        line: Line<'a>,
+        room: &mut [Token<'a>],
+        readings: &mut Vec<NumberedReading<'a>>,
+    ) -> Result<(), LineFault>
+        requires { IsTrue (counts_fit self.old.counts) }
+        ensures ok { OnOk result (AfterLine (outcome self.old line.entry.bytes.now) line.entry.number self.old self.new
+            (map seen_numbered readings.old.items) (map seen_numbered readings.new.items)) }
+        ensures fault { IfErr result (λ fault. IsFaultOf fault (outcome self.old line.entry.bytes.now)) }
+        ensures counts { OnOk result (IsTrue (counts_fit self.new.counts)) }
     {
-        if state.place.is_top() && line.is_metadata() {
-            return Ok(None);
+        if self.place.is_top() && line.is_metadata() {
+            return Ok(());
         }
         let Some(name) = line.label() else {
-            return Step::of_tokens(alloc, state, line);
+            return self.read_tokens(alloc, line, room, readings);
         };
-        match state.place.behind_label() {
-            Some(place) => Ok(Some(Step {
-                reading: Reading::Label { name },
-                state: State {
-                    form: state.form,
-                    place,
-                    counts: state.counts.with(Counted::Nothing),
-                },
-            })),
-            None => Err(LineFault::NoReading),
+        let Some(place) = self.place.behind_label() else {
+            return Err(LineFault::NoReading);
+        };
+        let reading = NumberedReading {
+            line: line.number,
+            reading: Reading::Label { name },
+        };
+        if readings.push(reading).is_err() {
+            return Err(LineFault::Memory);
         }
+        self.place = place;
+        self.counts = self.counts.with(Counted::Nothing);
+        Ok(())
     }
 }

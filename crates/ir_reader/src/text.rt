@@ -7,13 +7,20 @@ ghost use Rattle.ir_reader.specs.Raws.{seen_numbered};
 ghost use Rattle.ir_reader.specs.Reads.{TextGives, AfterLine, FaultOfLine};
 
 use crate::faults::{LineFault, ReadFault};
-use crate::line::Step;
 use crate::raw::{NumberedReading, Raw};
 use crate::states::{Counts, Place, State};
 use ir_ast::Form;
 use sp_ids::limits::FILE_BYTES;
-use sp_text::{Line, Lines};
+use sp_text::{Kind, Line, Lines, Token};
 use std::alloc::Global;
+
+// How many tokens of a line are found before it is read; further ones are found as they are reached.
+const TOKENS_AT_ONCE: usize = 256;
+
+const NO_TOKEN: Token<'static> = Token {
+    kind: Kind::Word,
+    bytes: b"",
+};
 
 impl State {
     // Nothing was read yet of a text in this form.
@@ -71,8 +78,9 @@ fn all_readings(
     let mut state = State::opening(form);
     let mut number = 1;
     let mut readings = Vec::new(alloc);
+    let mut room = [NO_TOKEN; TOKENS_AT_ONCE];
     while let Some(line) = lines.next_line() {
-        read_line(alloc, &mut state, line, &mut readings)?;
+        read_line(alloc, &mut state, line, &mut room, &mut readings)?;
         number = line.number + 1;
     }
     if state.place.is_top() {
@@ -87,6 +95,7 @@ fn read_line<'a>(
     alloc: Global,
     state: &mut State,
     line: Line<'a>,
+    room: &mut [Token<'a>],
     readings: &mut Vec<NumberedReading<'a>>,
 ) -> Result<(), ReadFault>
     requires { IsTrue (counts_fit state.old.counts) }
@@ -95,19 +104,8 @@ fn read_line<'a>(
     ensures fault { IfErr result (λ fault. FaultOfLine fault line.entry.number (outcome state.old line.entry.bytes.now)) }
     ensures counts { OnOk result (IsTrue (counts_fit state.new.counts)) }
 {
-    match Step::of(alloc, *state, line) {
-        Ok(None) => Ok(()),
-        Ok(Some(step)) => {
-            let reading = NumberedReading {
-                line: line.number,
-                reading: step.reading,
-            };
-            if readings.push(reading).is_err() {
-                return Err(ReadFault::Memory);
-            }
-            *state = step.state;
-            Ok(())
-        }
+    match state.read(alloc, line, room, readings) {
+        Ok(()) => Ok(()),
         Err(LineFault::NoReading) => Err(ReadFault::Syntax { line: line.number }),
         Err(LineFault::OverLimit) => Err(ReadFault::Limit { line: line.number }),
         Err(LineFault::Memory) => Err(ReadFault::Memory),

@@ -10,7 +10,8 @@ use line_parts::{Cursor, Stop};
 use line_tokens::{Dropped, Flags};
 use std::alloc::Global;
 
-pub fn scalar_element<'a>(cursor: &mut Cursor<'a>, name: &'a [u8]) -> Result<Reading<'a>, Stop>
+#[inline(never)]
+pub fn scalar_element<'a>(cursor: &mut Cursor<'_, 'a>, name: &'a [u8]) -> Result<Reading<'a>, Stop>
     ensures { Gives seen result cursor.new (behind_operator Form.ScalarElement name.now cursor.old) }
 {
     cursor.skip(Dropped::Words(Flags::Bounds));
@@ -31,7 +32,8 @@ pub fn scalar_element<'a>(cursor: &mut Cursor<'a>, name: &'a [u8]) -> Result<Rea
     })
 }
 
-pub fn layout_element<'a>(cursor: &mut Cursor<'a>, name: &'a [u8]) -> Result<Reading<'a>, Stop>
+#[inline(never)]
+pub fn layout_element<'a>(cursor: &mut Cursor<'_, 'a>, name: &'a [u8]) -> Result<Reading<'a>, Stop>
     ensures { Gives seen result cursor.new (behind_operator Form.LayoutElement name.now cursor.old) }
 {
     cursor.skip(Dropped::Words(Flags::Bounds));
@@ -54,7 +56,8 @@ pub fn layout_element<'a>(cursor: &mut Cursor<'a>, name: &'a [u8]) -> Result<Rea
     })
 }
 
-pub fn load<'a>(cursor: &mut Cursor<'a>, name: &'a [u8]) -> Result<Reading<'a>, Stop>
+#[inline(never)]
+pub fn load<'a>(cursor: &mut Cursor<'_, 'a>, name: &'a [u8]) -> Result<Reading<'a>, Stop>
     ensures { Gives seen result cursor.new (behind_operator Form.Load name.now cursor.old) }
 {
     let ty = cursor.value_type()?;
@@ -70,7 +73,8 @@ pub fn load<'a>(cursor: &mut Cursor<'a>, name: &'a [u8]) -> Result<Reading<'a>, 
     })
 }
 
-pub fn store<'a>(cursor: &mut Cursor<'a>) -> Result<Reading<'a>, Stop>
+#[inline(never)]
+pub fn store<'a>(cursor: &mut Cursor<'_, 'a>) -> Result<Reading<'a>, Stop>
     ensures { Gives seen result cursor.new (line_at Form.Store cursor.old) }
 {
     cursor.word(b"store")?;
@@ -84,7 +88,8 @@ pub fn store<'a>(cursor: &mut Cursor<'a>) -> Result<Reading<'a>, Stop>
     Ok(Reading::Store { ty, value, address })
 }
 
-pub fn value_call<'a>(cursor: &mut Cursor<'a>, alloc: Global) -> Result<Reading<'a>, Stop>
+#[inline(never)]
+pub fn value_call<'a>(cursor: &mut Cursor<'_, 'a>, alloc: Global) -> Result<Reading<'a>, Stop>
     ensures { Gives seen result cursor.new (line_at Form.ValueCall cursor.old) }
 {
     let result = cursor.local()?;
@@ -104,7 +109,8 @@ pub fn value_call<'a>(cursor: &mut Cursor<'a>, alloc: Global) -> Result<Reading<
     })
 }
 
-pub fn void_call<'a>(cursor: &mut Cursor<'a>, alloc: Global) -> Result<Reading<'a>, Stop>
+#[inline(never)]
+pub fn void_call<'a>(cursor: &mut Cursor<'_, 'a>, alloc: Global) -> Result<Reading<'a>, Stop>
     ensures { Gives seen result cursor.new (line_at Form.VoidCall cursor.old) }
 {
     cursor.skip(Dropped::Words(Flags::Calling));

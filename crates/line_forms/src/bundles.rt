@@ -28,14 +28,14 @@ fn is_live_tag(token: &Token) -> bool
 }
 
 #[tactic(auto, unfolding(line_parts::specs::Groups::live_entry_at, line_parts::specs::Gives::after))]
-fn live_entry<'a>(cursor: &mut Cursor<'a>) -> Result<Value<'a>, Stop>
+fn live_entry<'a>(cursor: &mut Cursor<'_, 'a>) -> Result<Value<'a>, Stop>
     ensures { Gives seen_value result cursor.new (live_entry_at cursor.old) }
 {
     cursor.managed()?;
     cursor.value()
 }
 
-fn some_live<'a>(cursor: &mut Cursor<'a>, alloc: Global) -> Result<LiveEntries<'a>, Stop>
+fn some_live<'a>(cursor: &mut Cursor<'_, 'a>, alloc: Global) -> Result<LiveEntries<'a>, Stop>
     ensures { Gives (λ live. map seen_value live.items) result cursor.new (listed_at live_entry_at comma cursor.old) }
 {
     let mut live = SmallVec::new(alloc);
@@ -50,7 +50,7 @@ fn some_live<'a>(cursor: &mut Cursor<'a>, alloc: Global) -> Result<LiveEntries<'
 }
 
 #[tactic(auto, unfolding(line_parts::specs::Lists::list_to))]
-fn live_entries<'a>(cursor: &mut Cursor<'a>, alloc: Global) -> Result<LiveEntries<'a>, Stop>
+fn live_entries<'a>(cursor: &mut Cursor<'_, 'a>, alloc: Global) -> Result<LiveEntries<'a>, Stop>
     ensures { Gives (λ live. map seen_value live.items) result cursor.new (list_to live_entry_at (codes ")") cursor.old) }
 {
     if cursor.begins_mark(b")") {
@@ -75,7 +75,7 @@ fn live_tag(cursor: &mut Cursor) -> Result<(), Stop>
 }
 
 #[tactic(auto, unfolding(line_parts::specs::Groups::bundle_at, line_parts::specs::Gives::after))]
-fn bundle<'a>(cursor: &mut Cursor<'a>, alloc: Global) -> Result<LiveEntries<'a>, Stop>
+fn bundle<'a>(cursor: &mut Cursor<'_, 'a>, alloc: Global) -> Result<LiveEntries<'a>, Stop>
     ensures { Gives (λ live. map seen_value live.items) result cursor.new (bundle_at cursor.old) }
 {
     cursor.mark(b"[")?;
@@ -89,7 +89,7 @@ fn bundle<'a>(cursor: &mut Cursor<'a>, alloc: Global) -> Result<LiveEntries<'a>,
 
 /// The live entries of a statepoint: none, where no bundle stands there.
 #[tactic(auto, unfolding(line_parts::specs::Groups::live_at))]
-pub fn live_if_any<'a>(cursor: &mut Cursor<'a>, alloc: Global) -> Result<LiveEntries<'a>, Stop>
+pub fn live_if_any<'a>(cursor: &mut Cursor<'_, 'a>, alloc: Global) -> Result<LiveEntries<'a>, Stop>
     ensures { Gives (λ live. map seen_value live.items) result cursor.new (live_at cursor.old) }
 {
     if !cursor.begins_mark(b"[") {

@@ -25,7 +25,12 @@ fn conversion_flags(cursor: &mut Cursor, op: Conversion)
     cursor.skip(Dropped::Words(op.flags()));
 }
 
-pub fn binary<'a>(cursor: &mut Cursor<'a>, name: &'a [u8], op: Binary) -> Result<Reading<'a>, Stop>
+#[inline(never)]
+pub fn binary<'a>(
+    cursor: &mut Cursor<'_, 'a>,
+    name: &'a [u8],
+    op: Binary,
+) -> Result<Reading<'a>, Stop>
     ensures { Gives seen result cursor.new (behind_operator (Form.Binary op) name.now cursor.old) }
 {
     binary_flags(cursor, op);
@@ -43,7 +48,8 @@ pub fn binary<'a>(cursor: &mut Cursor<'a>, name: &'a [u8], op: Binary) -> Result
     })
 }
 
-pub fn compare<'a>(cursor: &mut Cursor<'a>, name: &'a [u8]) -> Result<Reading<'a>, Stop>
+#[inline(never)]
+pub fn compare<'a>(cursor: &mut Cursor<'_, 'a>, name: &'a [u8]) -> Result<Reading<'a>, Stop>
     ensures { Gives seen result cursor.new (behind_operator Form.Compare name.now cursor.old) }
 {
     cursor.skip(Dropped::Words(Flags::SameSign));
@@ -62,8 +68,9 @@ pub fn compare<'a>(cursor: &mut Cursor<'a>, name: &'a [u8]) -> Result<Reading<'a
     })
 }
 
+#[inline(never)]
 pub fn convert<'a>(
-    cursor: &mut Cursor<'a>,
+    cursor: &mut Cursor<'_, 'a>,
     name: &'a [u8],
     op: Conversion,
 ) -> Result<Reading<'a>, Stop>
@@ -84,7 +91,8 @@ pub fn convert<'a>(
     })
 }
 
-pub fn cast<'a>(cursor: &mut Cursor<'a>, name: &'a [u8], op: Cast) -> Result<Reading<'a>, Stop>
+#[inline(never)]
+pub fn cast<'a>(cursor: &mut Cursor<'_, 'a>, name: &'a [u8], op: Cast) -> Result<Reading<'a>, Stop>
     ensures { Gives seen result cursor.new (behind_operator (Form.Cast op) name.now cursor.old) }
 {
     let from = cursor.cast_type()?;
@@ -101,7 +109,8 @@ pub fn cast<'a>(cursor: &mut Cursor<'a>, name: &'a [u8], op: Cast) -> Result<Rea
     })
 }
 
-pub fn select<'a>(cursor: &mut Cursor<'a>, name: &'a [u8]) -> Result<Reading<'a>, Stop>
+#[inline(never)]
+pub fn select<'a>(cursor: &mut Cursor<'_, 'a>, name: &'a [u8]) -> Result<Reading<'a>, Stop>
     ensures { Gives seen result cursor.new (behind_operator Form.Select name.now cursor.old) }
 {
     cursor.word(b"i1")?;
@@ -123,7 +132,12 @@ pub fn select<'a>(cursor: &mut Cursor<'a>, name: &'a [u8]) -> Result<Reading<'a>
     })
 }
 
-pub fn phi<'a>(cursor: &mut Cursor<'a>, name: &'a [u8], alloc: Global) -> Result<Reading<'a>, Stop>
+#[inline(never)]
+pub fn phi<'a>(
+    cursor: &mut Cursor<'_, 'a>,
+    name: &'a [u8],
+    alloc: Global,
+) -> Result<Reading<'a>, Stop>
     ensures { Gives seen result cursor.new (behind_operator Form.Phi name.now cursor.old) }
 {
     let ty = cursor.value_type()?;

@@ -9,7 +9,8 @@ use crate::readings::Reading;
 use line_parts::{Cursor, Stop};
 use line_tokens::Dropped;
 
-pub fn jump<'a>(cursor: &mut Cursor<'a>) -> Result<Reading<'a>, Stop>
+#[inline(never)]
+pub fn jump<'a>(cursor: &mut Cursor<'_, 'a>) -> Result<Reading<'a>, Stop>
     ensures { Gives seen result cursor.new (line_at Form.Jump cursor.old) }
 {
     cursor.word(b"br")?;
@@ -19,7 +20,8 @@ pub fn jump<'a>(cursor: &mut Cursor<'a>) -> Result<Reading<'a>, Stop>
     Ok(Reading::Jump { label })
 }
 
-pub fn branch<'a>(cursor: &mut Cursor<'a>) -> Result<Reading<'a>, Stop>
+#[inline(never)]
+pub fn branch<'a>(cursor: &mut Cursor<'_, 'a>) -> Result<Reading<'a>, Stop>
     ensures { Gives seen result cursor.new (line_at Form.Branch cursor.old) }
 {
     cursor.word(b"br")?;
@@ -39,7 +41,8 @@ pub fn branch<'a>(cursor: &mut Cursor<'a>) -> Result<Reading<'a>, Stop>
     })
 }
 
-pub fn switch<'a>(cursor: &mut Cursor<'a>) -> Result<Reading<'a>, Stop>
+#[inline(never)]
+pub fn switch<'a>(cursor: &mut Cursor<'_, 'a>) -> Result<Reading<'a>, Stop>
     ensures { Gives seen result cursor.new (line_at Form.Switch cursor.old) }
 {
     cursor.word(b"switch")?;
@@ -56,7 +59,8 @@ pub fn switch<'a>(cursor: &mut Cursor<'a>) -> Result<Reading<'a>, Stop>
     })
 }
 
-pub fn case<'a>(cursor: &mut Cursor<'a>) -> Result<Reading<'a>, Stop>
+#[inline(never)]
+pub fn case<'a>(cursor: &mut Cursor<'_, 'a>) -> Result<Reading<'a>, Stop>
     ensures { Gives seen result cursor.new (line_at Form.Case cursor.old) }
 {
     let width = cursor.width()?;
@@ -71,7 +75,8 @@ pub fn case<'a>(cursor: &mut Cursor<'a>) -> Result<Reading<'a>, Stop>
     })
 }
 
-pub fn switch_end<'a>(cursor: &mut Cursor<'a>) -> Result<Reading<'a>, Stop>
+#[inline(never)]
+pub fn switch_end<'a>(cursor: &mut Cursor<'_, 'a>) -> Result<Reading<'a>, Stop>
     ensures { Gives seen result cursor.new (line_at Form.SwitchEnd cursor.old) }
 {
     cursor.mark(b"]")?;
@@ -79,7 +84,8 @@ pub fn switch_end<'a>(cursor: &mut Cursor<'a>) -> Result<Reading<'a>, Stop>
     Ok(Reading::SwitchEnd)
 }
 
-pub fn return_void<'a>(cursor: &mut Cursor<'a>) -> Result<Reading<'a>, Stop>
+#[inline(never)]
+pub fn return_void<'a>(cursor: &mut Cursor<'_, 'a>) -> Result<Reading<'a>, Stop>
     ensures { Gives seen result cursor.new (line_at Form.ReturnVoid cursor.old) }
 {
     cursor.word(b"ret")?;
@@ -88,7 +94,8 @@ pub fn return_void<'a>(cursor: &mut Cursor<'a>) -> Result<Reading<'a>, Stop>
     Ok(Reading::ReturnVoid)
 }
 
-pub fn return_value<'a>(cursor: &mut Cursor<'a>) -> Result<Reading<'a>, Stop>
+#[inline(never)]
+pub fn return_value<'a>(cursor: &mut Cursor<'_, 'a>) -> Result<Reading<'a>, Stop>
     ensures { Gives seen result cursor.new (line_at Form.Return cursor.old) }
 {
     cursor.word(b"ret")?;
@@ -98,7 +105,8 @@ pub fn return_value<'a>(cursor: &mut Cursor<'a>) -> Result<Reading<'a>, Stop>
     Ok(Reading::Return { ty, value })
 }
 
-pub fn unreachable<'a>(cursor: &mut Cursor<'a>) -> Result<Reading<'a>, Stop>
+#[inline(never)]
+pub fn unreachable<'a>(cursor: &mut Cursor<'_, 'a>) -> Result<Reading<'a>, Stop>
     ensures { Gives seen result cursor.new (line_at Form.Unreachable cursor.old) }
 {
     cursor.word(b"unreachable")?;

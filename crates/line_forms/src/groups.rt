@@ -21,7 +21,7 @@ use line_tokens::{Dropped, Flags, Literal};
 use std::alloc::Global;
 
 // `%x = call`, before the type of what is called.
-fn called_result<'a>(cursor: &mut Cursor<'a>) -> Result<&'a [u8], Stop>
+fn called_result<'a>(cursor: &mut Cursor<'_, 'a>) -> Result<&'a [u8], Stop>
     ensures { Gives (λ x. name x.now ∷ []) result cursor.new (parse (result_is (calling [])) cursor.old) }
 {
     let result = cursor.local()?;
@@ -90,7 +90,7 @@ fn callee_type(cursor: &mut Cursor, alloc: Global) -> Result<FunctionType, Stop>
 }
 
 // The name of what a statepoint calls, and how many arguments the line says that there are.
-fn callee_count<'a>(cursor: &mut Cursor<'a>) -> Result<(&'a [u8], Literal), Stop>
+fn callee_count<'a>(cursor: &mut Cursor<'_, 'a>) -> Result<(&'a [u8], Literal), Stop>
     ensures { Gives (λ said. name said.0.now ∷ literal said.1 ∷ []) result cursor.new (parse callee_count cursor.old) }
 {
     cursor.skip(Dropped::BesideElementType);
@@ -104,7 +104,7 @@ fn callee_count<'a>(cursor: &mut Cursor<'a>) -> Result<(&'a [u8], Literal), Stop
 
 // The arguments and the live entries.
 fn point_end<'a>(
-    cursor: &mut Cursor<'a>,
+    cursor: &mut Cursor<'_, 'a>,
     alloc: Global,
 ) -> Result<(AllPassed<'a>, LiveEntries<'a>), Stop>
     ensures { Gives (λ end. handed (map seen_passed end.0.items) ∷ live (map seen_value end.1.items) ∷ []) result cursor.new (parse point_end cursor.old) }
@@ -118,7 +118,8 @@ fn point_end<'a>(
 }
 
 #[tactic(auto, unfolding(crate::specs::Seen::line_at, crate::specs::Forms::fit, line_parts::specs::Gives::after))]
-pub fn statepoint<'a>(cursor: &mut Cursor<'a>, alloc: Global) -> Result<Reading<'a>, Stop>
+#[inline(never)]
+pub fn statepoint<'a>(cursor: &mut Cursor<'_, 'a>, alloc: Global) -> Result<Reading<'a>, Stop>
     ensures { Gives seen result cursor.new (line_at Form.Statepoint cursor.old) }
 {
     let result = called_result(cursor)?;
@@ -145,7 +146,8 @@ pub fn statepoint<'a>(cursor: &mut Cursor<'a>, alloc: Global) -> Result<Reading<
     Ok(Reading::Statepoint { result, call, live })
 }
 
-pub fn gc_result<'a>(cursor: &mut Cursor<'a>) -> Result<Reading<'a>, Stop>
+#[inline(never)]
+pub fn gc_result<'a>(cursor: &mut Cursor<'_, 'a>) -> Result<Reading<'a>, Stop>
     ensures { Gives seen result cursor.new (line_at Form.GcResult cursor.old) }
 {
     let result = cursor.local()?;
@@ -166,7 +168,8 @@ pub fn gc_result<'a>(cursor: &mut Cursor<'a>) -> Result<Reading<'a>, Stop>
     })
 }
 
-pub fn gc_relocate<'a>(cursor: &mut Cursor<'a>) -> Result<Reading<'a>, Stop>
+#[inline(never)]
+pub fn gc_relocate<'a>(cursor: &mut Cursor<'_, 'a>) -> Result<Reading<'a>, Stop>
     ensures { Gives seen result cursor.new (line_at Form.GcRelocate cursor.old) }
 {
     let result = cursor.local()?;

@@ -12,7 +12,8 @@ use line_parts::{Cursor, Stop, TypeWord};
 use line_tokens::Dropped;
 use std::alloc::Global;
 
-pub fn layout<'a>(cursor: &mut Cursor<'a>, alloc: Global) -> Result<Reading<'a>, Stop>
+#[inline(never)]
+pub fn layout<'a>(cursor: &mut Cursor<'_, 'a>, alloc: Global) -> Result<Reading<'a>, Stop>
     ensures { Gives seen result cursor.new (line_at Form.Layout cursor.old) }
 {
     let name = cursor.local()?;
@@ -24,7 +25,8 @@ pub fn layout<'a>(cursor: &mut Cursor<'a>, alloc: Global) -> Result<Reading<'a>,
     Ok(Reading::Layout { name, fields })
 }
 
-pub fn declare<'a>(cursor: &mut Cursor<'a>, alloc: Global) -> Result<Reading<'a>, Stop>
+#[inline(never)]
+pub fn declare<'a>(cursor: &mut Cursor<'_, 'a>, alloc: Global) -> Result<Reading<'a>, Stop>
     ensures { Gives seen result cursor.new (line_at Form.Declare cursor.old) }
 {
     cursor.word(b"declare")?;
@@ -40,7 +42,8 @@ pub fn declare<'a>(cursor: &mut Cursor<'a>, alloc: Global) -> Result<Reading<'a>
     })
 }
 
-pub fn define<'a>(cursor: &mut Cursor<'a>, alloc: Global) -> Result<Reading<'a>, Stop>
+#[inline(never)]
+pub fn define<'a>(cursor: &mut Cursor<'_, 'a>, alloc: Global) -> Result<Reading<'a>, Stop>
     ensures { Gives seen result cursor.new (line_at Form.Define cursor.old) }
 {
     cursor.word(b"define")?;
@@ -59,7 +62,8 @@ pub fn define<'a>(cursor: &mut Cursor<'a>, alloc: Global) -> Result<Reading<'a>,
     })
 }
 
-pub fn close<'a>(cursor: &mut Cursor<'a>) -> Result<Reading<'a>, Stop>
+#[inline(never)]
+pub fn close<'a>(cursor: &mut Cursor<'_, 'a>) -> Result<Reading<'a>, Stop>
     ensures { Gives seen result cursor.new (line_at Form.Close cursor.old) }
 {
     cursor.mark(b"}")?;

@@ -1,6 +1,6 @@
 //! Whole lines of a form.
 
-ghost use Rattle.std.specs.Prelude.{◌≡◌, true, false, is_some};
+ghost use Rattle.std.specs.Prelude.{◌≡◌, true, false, is_some, MatchResult};
 ghost use Rattle.std.specs.Option.{option_copied};
 ghost use Rattle.line_parts.specs.Gives.{Gives};
 ghost use Rattle.line_forms.specs.Forms.{is_dropped_form, is_operator_form};
@@ -19,7 +19,7 @@ use line_parts::{Cursor, Stop, TypeWord};
 use std::alloc::Global;
 
 // What a line of this form says.
-fn kept<'a>(cursor: &mut Cursor<'a>, alloc: Global, form: Form) -> Result<Reading<'a>, Stop>
+fn kept<'a>(cursor: &mut Cursor<'_, 'a>, alloc: Global, form: Form) -> Result<Reading<'a>, Stop>
     requires kept { is_dropped_form form ≡ false }
     requires whole { is_operator_form form ≡ false }
     ensures { Gives seen result cursor.new (line_at form cursor.old) }
@@ -49,7 +49,7 @@ fn kept<'a>(cursor: &mut Cursor<'a>, alloc: Global, form: Form) -> Result<Readin
 
 // What a line of this form says from behind its operator on.
 fn operated<'a>(
-    cursor: &mut Cursor<'a>,
+    cursor: &mut Cursor<'_, 'a>,
     alloc: Global,
     form: Form,
     name: &'a [u8],
@@ -73,8 +73,9 @@ fn operated<'a>(
 
 /// What a whole line of this form says, from where it was opened on ([`opened_form`](crate::opened_form)): `name` is its result, where
 /// the cursor stands behind its operator.
+#[inline(never)]
 pub fn whole_kept<'a>(
-    cursor: &mut Cursor<'a>,
+    cursor: &mut Cursor<'_, 'a>,
     alloc: Global,
     form: Form,
     name: Option<&'a [u8]>,
@@ -83,14 +84,24 @@ pub fn whole_kept<'a>(
     requires opened { is_some (option_copied name) ≡ is_operator_form form }
     ensures { Reads seen result (ended (opened_at form (option_copied name.entry) cursor.old)) }
 {
-    let reading = match name {
-        Some(name) => operated(cursor, alloc, form, name)?,
-        None => kept(cursor, alloc, form)?,
+    let read = match name {
+        Some(name) => operated(cursor, alloc, form, name),
+        None => kept(cursor, alloc, form),
     };
     if cursor.is_at_end() {
-        Ok(reading)
+        read
     } else {
-        Err(Stop::NoReading)
+        Err(unread(read))
+    }
+}
+
+// Why a line isn't read behind which something stands.
+fn unread(read: Result<Reading, Stop>) -> Stop
+    ensures { MatchResult read.entry (λ _. result ≡ Stop.NoReading) (λ stop. result ≡ stop) }
+{
+    match read {
+        Ok(_) => Stop::NoReading,
+        Err(stop) => stop,
     }
 }
 

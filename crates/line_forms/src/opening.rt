@@ -87,7 +87,10 @@ fn declared_form(name: Option<&[u8]>) -> Form
 /// The form of a line of a text in this form: no other form can fit it. Where that is an operator's, the cursor passes
 /// the operator, and the name of the line's result is given beside the form.
 #[tactic(auto, using(crate::proofs::Operators::operator_in), unfolding(crate::specs::Forms::form_in))]
-pub fn opened_form<'a>(cursor: &mut Cursor<'a>, text: TextForm) -> Option<(Form, Option<&'a [u8]>)>
+pub fn opened_form<'a>(
+    cursor: &mut Cursor<'_, 'a>,
+    text: TextForm,
+) -> Option<(Form, Option<&'a [u8]>)>
     ensures { MatchOption result (form_in text cursor.old ≡ None)
         (λ found. Opens text cursor.old found.0 (option_copied found.1) cursor.new) }
 {
@@ -129,7 +132,7 @@ fn group_form(cursor: &Cursor, form: Form) -> Option<Form>
 
 // The first function that is named from here on.
 #[tactic(auto, unfolding(crate::specs::Forms::first_global))]
-fn first_global<'a>(cursor: &Cursor<'a>) -> Option<&'a [u8]>
+fn first_global<'a>(cursor: &Cursor<'_, 'a>) -> Option<&'a [u8]>
     ensures { option_copied result ≡ first_global cursor.now }
 {
     let mut rest = cursor.copied();
@@ -143,7 +146,7 @@ fn first_global<'a>(cursor: &Cursor<'a>) -> Option<&'a [u8]>
 
 // The function that a call with a result names. A byte that begins no token ends what is looked at.
 #[tactic(auto, unfolding(crate::specs::Forms::callee_of, crate::specs::Forms::first_global, line_parts::specs::Drops::past_all, line_parts::specs::Drops::past_at_most))]
-fn result_callee<'a>(cursor: &Cursor<'a>) -> Option<&'a [u8]>
+fn result_callee<'a>(cursor: &Cursor<'_, 'a>) -> Option<&'a [u8]>
     ensures { option_copied result ≡ callee_of (behind_result cursor.now) }
 {
     let mut rest = cursor.copied();
@@ -170,7 +173,7 @@ fn pass_word(cursor: &mut Cursor, text: &[u8])
 
 // The function that a call names.
 #[tactic(auto, unfolding(crate::specs::Forms::callee_of))]
-fn callee<'a>(cursor: &Cursor<'a>) -> Option<&'a [u8]>
+fn callee<'a>(cursor: &Cursor<'_, 'a>) -> Option<&'a [u8]>
     ensures { option_copied result ≡ callee_of cursor.now }
 {
     let mut rest = cursor.copied();
@@ -182,7 +185,7 @@ fn callee<'a>(cursor: &Cursor<'a>) -> Option<&'a [u8]>
 
 // The function that a declaration names.
 #[tactic(auto, unfolding(crate::specs::Forms::declared_of))]
-fn declared<'a>(cursor: &Cursor<'a>) -> Option<&'a [u8]>
+fn declared<'a>(cursor: &Cursor<'_, 'a>) -> Option<&'a [u8]>
     ensures { option_copied result ≡ declared_of cursor.now }
 {
     let mut rest = cursor.copied();
@@ -195,7 +198,7 @@ fn declared<'a>(cursor: &Cursor<'a>) -> Option<&'a [u8]>
 // The form of a line of the source form. Where that is an operator's, the cursor passes the operator, and the name of
 // the result is given.
 #[tactic(auto, using(crate::proofs::Operators::line_behind), unfolding(crate::specs::Forms::form_of))]
-fn source_form<'a>(cursor: &mut Cursor<'a>) -> Option<(Form, Option<&'a [u8]>)>
+fn source_form<'a>(cursor: &mut Cursor<'_, 'a>) -> Option<(Form, Option<&'a [u8]>)>
     ensures form { MatchOption result (form_of cursor.old ≡ None) (λ found. form_of cursor.old ≡ Some found.0) }
     ensures operator { IfSome result (λ found. is_some (option_copied found.1) ≡ is_operator_form found.0) }
     ensures stays { IfSome result (λ found. is_operator_form found.0 ≡ false → cursor.new ≡ cursor.old) }

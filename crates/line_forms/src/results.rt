@@ -36,7 +36,7 @@ fn function_named(cursor: &mut Cursor, name: &[u8]) -> Result<(), Stop>
 }
 
 // The end of a result's name, where a type begins here.
-fn suffix<'a>(cursor: &Cursor<'a>, ty: TypeWord) -> &'a [u8]
+fn suffix<'a>(cursor: &Cursor<'_, 'a>, ty: TypeWord) -> &'a [u8]
     ensures { result.now ≡ suffix_of ty cursor.now }
 {
     match ty {

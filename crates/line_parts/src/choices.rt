@@ -15,7 +15,7 @@ use ir_ast::Pred;
 use line_tokens::{Literal, is_mark, is_word, local, pred_in};
 use sp_text::{Kind, Token};
 
-impl<'a> Cursor<'a> {
+impl<'t, 'a> Cursor<'t, 'a> {
     /// A predicate.
     #[tactic(auto, unfolding(crate::specs::Gives::one_at))]
     pub fn pred(&mut self) -> Result<Pred, Stop>

@@ -1,64 +1,123 @@
 //! A place in a line: the tokens from there on.
 
-ghost use Rattle.std.specs.Prelude.{◌≡◌, ◌≤◌, ◌<◌, ◌^◌, ◌⊎◌, List, [], ◌∷◌, length, MatchOption};
+ghost use Rattle.std.specs.Prelude.{◌≡◌, ◌+◌, ◌++◌, ◌≤◌, ◌<◌, ◌^◌, ◌⊎◌, List, [], ◌∷◌, length, map, drop, MatchOption, IfSome};
 ghost use Rattle.sp_text.specs.Tokens.{tok, bad, tokens};
+ghost use Rattle.sp_text.specs.TokenAt.{seen_token};
 ghost use Rattle.line_parts.specs.Gives.{BeginsWith, is_nil};
 
-use sp_text::{BadByte, Line, Token};
+use sp_text::{Line, Token};
 use std::marker::Model;
 
 /// A place in a line. Contracts see the tokens from there on.
 #[derive(Drop)]
-pub struct Cursor<'a> {
-    line: Line<'a>,
-    // Each token is looked at several times, so it is kept from when the place is reached.
-    next: Result<Option<Token<'a>>, BadByte>,
+pub struct Cursor<'t, 'a> {
+    // The first tokens of the line, of which those from a place on are the next.
+    found: &'t [Token<'a>],
+    at: usize,
+    // What stands behind them in the line.
+    rest: &'a [u8],
 }
 
-impl<'a> Model for Cursor<'a> {
-    ghost use Rattle.std.specs.Prelude.{List, length, IfOk, IfSome, ◌≤◌, ◌<◌, ◌^◌};
-    ghost use Rattle.sp_text.specs.Tokens.{Tok};
-    ghost use Rattle.sp_text.specs.TokenAt.{tokens_by};
+impl<'t, 'a> Model for Cursor<'t, 'a> {
+    ghost use Rattle.std.specs.Prelude.{List, length, map, drop, ◌++◌, ◌<◌, ◌^◌};
+    ghost use Rattle.sp_text.specs.Tokens.{Tok, tokens};
+    ghost use Rattle.sp_text.specs.TokenAt.{seen_token};
 
     ghost Value = { List Tok };
 
-    ghost view = { λ c. tokens_by c.line.bytes.now c.next };
+    ghost view = { λ c. map seen_token (drop c.at c.found.now) ++ tokens c.rest.now };
 
-    ghost invariant = { λ c. IfOk c.next (λ found. IfSome found (λ token. token.to ≤ length c.line.bytes.now)) × (length (tokens_by c.line.bytes.now c.next) < 2 ^ 63) };
+    ghost invariant = { λ c. length (map seen_token (drop c.at c.found.now) ++ tokens c.rest.now) < 2 ^ 63 };
 }
 
-impl<'a> Cursor<'a> {
-    /// The first place of a line.
-    pub fn of(line: Line<'a>) -> Cursor<'a>
+// The token at this place, where one stands there.
+#[inline(always)]
+fn found_at<'a>(found: &[Token<'a>], at: usize) -> Option<Token<'a>>
+    ensures token { MatchOption result (drop at found.now ≡ []) (λ token. drop at found.now ≡ token ∷ drop (at + 1) found.now) }
+    ensures fits { IfSome result (λ _. at + 1 < 2 ^ 64) }
+{
+    if at < found.len() {
+        Some(found[at])
+    } else {
+        None
+    }
+}
+
+// The first token of the bytes, and what follows it. There may be none: the line ends there, or a byte begins no token.
+fn first_of<'a>(bytes: &'a [u8]) -> Option<(Token<'a>, &'a [u8])>
+    ensures { MatchOption result ((tokens bytes.now ≡ []) ⊎ (tokens bytes.now ≡ bad ∷ []))
+        (λ found. tokens bytes.now ≡ tok found.0.kind found.0.bytes.now ∷ tokens found.1.now) }
+{
+    let line = Line { number: 0, bytes };
+    match line.token_at(0) {
+        Ok(Some(token)) => {
+            let first = Token {
+                kind: token.kind,
+                bytes: token.bytes,
+            };
+            Some((first, &bytes[token.to..]))
+        }
+        Ok(None) => None,
+        Err(_) => None,
+    }
+}
+
+// Whether no token and no byte that begins none stands there.
+fn ends(bytes: &[u8]) -> bool
+    ensures { result ≡ is_nil (tokens bytes.now) }
+{
+    let line = Line { number: 0, bytes };
+    match line.token_at(0) {
+        Ok(None) => true,
+        Ok(Some(_)) => false,
+        Err(_) => false,
+    }
+}
+
+impl<'t, 'a> Cursor<'t, 'a> {
+    /// The first place of a line, of whose tokens the first are these, and the others stand from the place on.
+    pub fn of(line: Line<'a>, found: &'t [Token<'a>], from: usize) -> Cursor<'t, 'a>
+        requires place { from ≤ length line.bytes.now }
+        requires all { tokens line.bytes.now ≡ map seen_token found.now ++ tokens (drop from line.bytes.now) }
         ensures { result ≡ tokens line.entry.bytes.now }
     {
-        let next = line.token_at(0);
-        Cursor { line, next }
+        let (_, rest) = line.bytes.split_at(from);
+        Cursor { found, at: 0, rest }
     }
 
     /// The next token, which is passed. There may be none: the line ends there, or a byte begins no token.
+    #[inline(always)]
     pub fn token(&mut self) -> Option<Token<'a>>
         ensures { MatchOption result ((self.new ≡ self.old) × ((self.old ≡ []) ⊎ (self.old ≡ bad ∷ [])))
             (λ token. self.old ≡ tok token.kind token.bytes.now ∷ self.new) }
     {
-        match self.next {
-            Ok(Some(token)) => {
-                self.next = self.line.token_at(token.to);
+        match found_at(self.found, self.at) {
+            Some(token) => {
+                self.at += 1;
                 Some(token)
             }
-            Ok(None) => None,
-            Err(_) => None,
+            None => match first_of(self.rest) {
+                Some((token, more)) => {
+                    self.rest = more;
+                    Some(token)
+                }
+                None => None,
+            },
         }
     }
 
     /// The next token, which is not passed.
+    #[inline(always)]
     pub fn peek(&self) -> Option<Token<'a>>
         ensures { MatchOption result ((self.now ≡ []) ⊎ (self.now ≡ bad ∷ []))
             (λ token. BeginsWith token.kind token.bytes.now self.now) }
     {
-        match self.next {
-            Ok(found) => found,
-            Err(_) => None,
+        match found_at(self.found, self.at) {
+            Some(token) => Some(token),
+            None => match first_of(self.rest) {
+                Some((token, _)) => Some(token),
+                None => None,
+            },
         }
     }
 
@@ -66,21 +125,22 @@ impl<'a> Cursor<'a> {
     pub fn is_at_end(&self) -> bool
         ensures { result ≡ is_nil self.now }
     {
-        match self.next {
-            Ok(None) => true,
-            Ok(Some(_)) => false,
-            Err(_) => false,
+        match found_at(self.found, self.at) {
+            Some(_) => false,
+            None => ends(self.rest),
         }
     }
 
     /// Another cursor at the same place.
-    pub fn copied(&self) -> Cursor<'a>
+    #[inline(always)]
+    pub fn copied(&self) -> Cursor<'t, 'a>
         ensures same { result ≡ self.now }
         ensures small { length result < 2 ^ 63 }
     {
         Cursor {
-            line: self.line,
-            next: self.next,
+            found: self.found,
+            at: self.at,
+            rest: self.rest,
         }
     }
 }

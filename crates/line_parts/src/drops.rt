@@ -78,9 +78,9 @@ fn is_bang_number(token: &Token) -> bool
     }
 }
 
-impl<'a> Cursor<'a> {
+impl<'t, 'a> Cursor<'t, 'a> {
     // The place after the longest attribute group, where one stands.
-    fn past_group(&self) -> Option<Cursor<'a>>
+    fn past_group(&self) -> Option<Cursor<'t, 'a>>
         ensures { result ≡ past_group self.now }
     {
         if !self.begins_group() {
@@ -119,7 +119,7 @@ impl<'a> Cursor<'a> {
         }
     }
 
-    fn past_group_beside(&self) -> Option<Cursor<'a>>
+    fn past_group_beside(&self) -> Option<Cursor<'t, 'a>>
         ensures { result ≡ past_group_beside self.now }
     {
         if self.begins_word(b"elementtype") {
@@ -130,7 +130,7 @@ impl<'a> Cursor<'a> {
     }
 
     // The place after what belongs to the word that begins a group.
-    fn past_word(&self, word: &[u8]) -> Cursor<'a>
+    fn past_word(&self, word: &[u8]) -> Cursor<'t, 'a>
         ensures { result ≡ past_word word.now self.now }
     {
         if is_text(word, b"align") && self.begins_number() {
@@ -149,7 +149,7 @@ impl<'a> Cursor<'a> {
         }
     }
 
-    fn past_number(&self) -> Cursor<'a>
+    fn past_number(&self) -> Cursor<'t, 'a>
         ensures { result ≡ past is_number self.now }
     {
         let mut rest = self.copied();
@@ -166,7 +166,7 @@ impl<'a> Cursor<'a> {
     }
 
     // The place after a bracketing, where one stands.
-    fn past_bracketing(&self) -> Cursor<'a>
+    fn past_bracketing(&self) -> Cursor<'t, 'a>
         ensures { result ≡ past_bracketing self.now }
     {
         let mut rest = self.copied();
@@ -186,7 +186,7 @@ impl<'a> Cursor<'a> {
 
     /// The place after the bracket that closes the open one.
     #[tactic(auto, unfolding(crate::specs::Drops::after_bracket))]
-    pub fn after_bracket(&self) -> Option<Cursor<'a>>
+    pub fn after_bracket(&self) -> Option<Cursor<'t, 'a>>
         ensures { result ≡ after_bracket 0 self.now }
     {
         let mut rest = self.copied();
@@ -205,7 +205,7 @@ impl<'a> Cursor<'a> {
     }
 
     // The place after `=` and a quoted text, where they stand.
-    fn past_quoted_value(&self) -> Cursor<'a>
+    fn past_quoted_value(&self) -> Cursor<'t, 'a>
         ensures { result ≡ past_quoted_value self.now }
     {
         let mut rest = self.copied();
@@ -219,7 +219,7 @@ impl<'a> Cursor<'a> {
         }
     }
 
-    fn past_head_attachment(&self) -> Option<Cursor<'a>>
+    fn past_head_attachment(&self) -> Option<Cursor<'t, 'a>>
         ensures { result ≡ past_head_attachment self.now }
     {
         let mut rest = self.copied();
@@ -232,7 +232,7 @@ impl<'a> Cursor<'a> {
         }
     }
 
-    fn past_attachment(&self) -> Option<Cursor<'a>>
+    fn past_attachment(&self) -> Option<Cursor<'t, 'a>>
         ensures { result ≡ past_attachment self.now }
     {
         if !self.begins_mark(b",") {
@@ -249,7 +249,7 @@ impl<'a> Cursor<'a> {
         }
     }
 
-    fn past_alignment(&self) -> Option<Cursor<'a>>
+    fn past_alignment(&self) -> Option<Cursor<'t, 'a>>
         ensures { result ≡ past_alignment self.now }
     {
         if !self.begins_mark(b",") {
@@ -266,7 +266,7 @@ impl<'a> Cursor<'a> {
         }
     }
 
-    fn past_flag(&self, flags: Flags) -> Option<Cursor<'a>>
+    fn past_flag(&self, flags: Flags) -> Option<Cursor<'t, 'a>>
         ensures { result ≡ past_one_of (flag_words flags) self.now }
     {
         let token = self.peek()?;
@@ -284,7 +284,7 @@ impl<'a> Cursor<'a> {
     }
 
     // The place after one thing that is dropped, where one stands.
-    fn past_dropped(&self, what: Dropped) -> Option<Cursor<'a>>
+    fn past_dropped(&self, what: Dropped) -> Option<Cursor<'t, 'a>>
         ensures { result ≡ past_dropped what self.now }
     {
         match what {

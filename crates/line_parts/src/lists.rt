@@ -15,7 +15,7 @@ use line_tokens::{Dropped, is_mark, is_text};
 use smallvec::SmallVec;
 use std::alloc::Global;
 
-impl<'a> Cursor<'a> {
+impl<'t, 'a> Cursor<'t, 'a> {
     /// Passes a comma, where one stands.
     pub fn pass_comma(&mut self)
         ensures { self.new ≡ past (is_mark (codes ",")) self.old }

@@ -119,7 +119,7 @@ pub fn number_of(cursor: &mut Cursor, ty: &[u8]) -> Result<Literal, Stop>
 
 /// The name of a token.
 #[tactic(auto, unfolding(crate::specs::Groups::token_at, crate::specs::Gives::after))]
-pub fn token_name<'a>(cursor: &mut Cursor<'a>) -> Result<&'a [u8], Stop>
+pub fn token_name<'a>(cursor: &mut Cursor<'_, 'a>) -> Result<&'a [u8], Stop>
     ensures { Gives (λ name. name.now) result cursor.new (token_at cursor.old) }
 {
     cursor.word(b"token")?;

@@ -18,7 +18,7 @@ use line_tokens::{
 };
 use sp_text::{Kind, Token};
 
-impl<'a> Cursor<'a> {
+impl<'t, 'a> Cursor<'t, 'a> {
     /// Passes this word.
     #[tactic(auto, unfolding(crate::specs::Gives::one_at))]
     pub fn word(&mut self, text: &[u8]) -> Result<(), Stop>

@@ -25,7 +25,7 @@ fn begins_argument(cursor: &Cursor) -> bool
     !takes_closing(&mut rest)
 }
 
-fn some_handed<'a>(cursor: &mut Cursor<'a>, alloc: Global) -> Result<AllPassed<'a>, Stop>
+fn some_handed<'a>(cursor: &mut Cursor<'_, 'a>, alloc: Global) -> Result<AllPassed<'a>, Stop>
     ensures { Gives (λ passed. map seen_passed passed.items) result cursor.new (listed_at (passed_at true) begins_argument cursor.old) }
 {
     let mut all = SmallVec::new(alloc);
@@ -41,7 +41,7 @@ fn some_handed<'a>(cursor: &mut Cursor<'a>, alloc: Global) -> Result<AllPassed<'
 
 /// The arguments of what a statepoint calls, a comma before each.
 #[tactic(auto, unfolding(crate::specs::Groups::handed_at))]
-pub fn handed<'a>(cursor: &mut Cursor<'a>, alloc: Global) -> Result<AllPassed<'a>, Stop>
+pub fn handed<'a>(cursor: &mut Cursor<'_, 'a>, alloc: Global) -> Result<AllPassed<'a>, Stop>
     ensures { Gives (λ passed. map seen_passed passed.items) result cursor.new (handed_at cursor.old) }
 {
     if !begins_argument(cursor) {

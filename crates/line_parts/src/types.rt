@@ -22,7 +22,7 @@ fn is_one(token: &Token) -> bool
     }
 }
 
-impl<'a> Cursor<'a> {
+impl<'t, 'a> Cursor<'t, 'a> {
     // Passes the number 1.
     #[tactic(auto, unfolding(crate::specs::Gives::one_at))]
     fn one(&mut self) -> Result<(), Stop>

@@ -9,7 +9,7 @@ use Rattle.sp_text.specs.TokenAt.{IsFirstToken, BeginsNoToken}
 use Rattle.sp_text.specs.Tokens.{is_token, kind_of, front_of, tok, bad, tokens}
 use Rattle.sp_text.specs.declared.tokens.Kind.{Kind}
 use Rattle.sp_text.specs.declared.tokens.Kind.TheVariants.{Word, Local, Global, Number, Quoted, Hash, Bang, Punct}
-use Rattle.sp_text.specs.declared.tokens.Token.{Token}
+use Rattle.sp_text.specs.declared.tokens.PlacedToken.{PlacedToken}
 use Rattle.sp_text.proofs.Runs.{list_all-prefix}
 use Rattle.sp_text.proofs.TokenLemmas.{front_of-some, front_of-none, kind_of-some, kind_of-none, tokens-after_blanks, after_blanks-first, tokens-nil, tokens-comment, tokens-some, tokens-none}
 
@@ -51,7 +51,7 @@ front-fits {line} {from} {blanks} {first} {rest} kind len s front =
     let same : length (drop (from + blanks) line) ≡ length (first ∷ rest) = ap length s.here in
     (found.some, omega (arith, length-drop (from + blanks) line, fits, same, found.some))
 
-pub first_token : {line : List ℕ} {from blanks first : ℕ} {rest : List ℕ} (kind : Kind) (len : ℕ) → StartsAt line from blanks first rest → front_of (first ∷ rest) ≡ Some (kind, len) → (token : Token) → token.kind ≡ kind → token.from ≡ from + blanks → token.to ≡ from + blanks + len
+pub first_token : {line : List ℕ} {from blanks first : ℕ} {rest : List ℕ} (kind : Kind) (len : ℕ) → StartsAt line from blanks first rest → front_of (first ∷ rest) ≡ Some (kind, len) → (token : PlacedToken) → token.kind ≡ kind → token.from ≡ from + blanks → token.to ≡ from + blanks + len
     → token.bytes.now ≡ slice_range line (from + blanks) (from + blanks + len) → IsFirstToken line from token
 first_token {line} {from} {blanks} {first} {rest} kind len s front token same_kind same_from same_to same_bytes =
     let found = front_of-some (first ∷ rest) kind len front in

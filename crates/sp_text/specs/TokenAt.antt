@@ -4,11 +4,12 @@ use Rattle.std.specs.List.{list_all, prefix_len}
 use Rattle.sp_text.specs.Bytes.{is_blank, after_blanks}
 use Rattle.sp_text.specs.Tokens.{is_token, says_nothing, Tok, tok, bad, tokens}
 use Rattle.sp_text.specs.declared.tokens.Kind.{Kind}
+use Rattle.sp_text.specs.declared.tokens.PlacedToken.{PlacedToken}
 use Rattle.sp_text.specs.declared.tokens.Token.{Token}
 use Rattle.sp_text.specs.declared.tokens.BadByte.{BadByte}
 
 -- the token is the first one from `from` on, and the longest at its place
-pub record IsFirstToken (line : List ℕ) (from : ℕ) (token : Token) : Type 0 where
+pub record IsFirstToken (line : List ℕ) (from : ℕ) (token : PlacedToken) : Type 0 where
   pub after : from ≤ token.from
   pub blanks : IsTrue (list_all is_blank (slice_range line from token.from))
   pub some : token.from < token.to
@@ -27,7 +28,10 @@ abbrev pub past_blanks : List ℕ → ℕ → ℕ
 past_blanks line from = from + prefix_len is_blank (drop from line)
 
 -- the tokens of a line from a place on, by what was found there first
-abbrev pub tokens_by : List ℕ → Result (Option Token) BadByte → List Tok
+abbrev pub tokens_by : List ℕ → Result (Option PlacedToken) BadByte → List Tok
 tokens_by line (Ok None) = []
 tokens_by line (Ok (Some token)) = tok token.kind token.bytes.now ∷ tokens (drop token.to line)
 tokens_by line (Err byte) = bad ∷ []
+
+abbrev pub seen_token : Token → Tok
+seen_token token = tok token.kind token.bytes.now

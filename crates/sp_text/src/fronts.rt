@@ -11,6 +11,7 @@ use crate::tokens::Kind;
 use memchr::memchr;
 
 // The longest token that begins with the byte `first`: its kind and its length.
+#[inline(always)]
 pub(crate) fn front(first: u8, rest: &[u8]) -> Option<(Kind, usize)>
     ensures { result ≡ front_of (first ∷ rest.now) }
 {

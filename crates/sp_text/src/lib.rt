@@ -8,4 +8,4 @@ mod lines;
 mod tokens;
 
 pub use lines::{Line, Lines};
-pub use tokens::{BadByte, Kind, Token};
+pub use tokens::{BadByte, Kind, PlacedToken, Token};

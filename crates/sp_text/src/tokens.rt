@@ -1,5 +1,5 @@
-ghost use Rattle.std.specs.Prelude.{◌≡◌, ◌+◌, ◌≤◌, ◌↔◌, length, drop, IsTrue, IsErr, IfOk, IfErr, IfSome};
-ghost use Rattle.sp_text.specs.TokenAt.{IsFirstToken, BeginsNoToken, past_blanks, tokens_by};
+ghost use Rattle.std.specs.Prelude.{◌≡◌, ◌+◌, ◌++◌, ◌≤◌, ◌↔◌, length, map, take, drop, IsTrue, IsErr, IfOk, IfErr, IfSome};
+ghost use Rattle.sp_text.specs.TokenAt.{IsFirstToken, BeginsNoToken, past_blanks, tokens_by, seen_token};
 ghost use Rattle.sp_text.specs.Tokens.{tokens, says_nothing};
 
 use crate::fronts::{after, blanks_len, front};
@@ -28,9 +28,16 @@ pub enum Kind {
     Punct,
 }
 
-/// A token of a line, the longest at its place.
+/// A token of a line, a slice of the text.
 #[derive(Clone, Copy, Debug)]
 pub struct Token<'a> {
+    pub kind: Kind,
+    pub bytes: &'a [u8],
+}
+
+/// A token of a line in its place, the longest there.
+#[derive(Clone, Copy, Debug)]
+pub struct PlacedToken<'a> {
     pub kind: Kind,
     /// The slice `from..to` of the line.
     pub bytes: &'a [u8],
@@ -60,7 +67,8 @@ impl Error for BadByte {}
 impl<'a> Line<'a> {
     /// The first token at or after `from`: `None` exactly where only blanks or a comment follow, and
     /// [`BadByte`] exactly where the first byte after the blanks begins no token.
-    pub fn token_at(&self, from: usize) -> Result<Option<Token<'a>>, BadByte>
+    #[inline(always)]
+    pub fn token_at(&self, from: usize) -> Result<Option<PlacedToken<'a>>, BadByte>
         requires { from ≤ length self.now.bytes.now }
         ensures remaining { tokens (drop from self.now.bytes.now) ≡ tokens_by self.now.bytes.now result }
         ensures token { IfOk result (λ found. IfSome found (IsFirstToken self.now.bytes.now from)) }
@@ -80,7 +88,7 @@ impl<'a> Line<'a> {
         match front(*first, rest) {
             Some((kind, len)) => {
                 let to = at + len;
-                Ok(Some(Token {
+                Ok(Some(PlacedToken {
                     kind,
                     bytes: &bytes[at..to],
                     from: at,
@@ -92,5 +100,30 @@ impl<'a> Line<'a> {
                 at,
             }),
         }
+    }
+
+    /// Finds the line's first tokens, as many as there is room for: how many, and the place from which the others follow.
+    #[inline(never)]
+    pub fn first_tokens(&self, room: &mut [Token<'a>]) -> (usize, usize)
+        ensures within { result.0 ≤ length room.new }
+        ensures place { result.1 ≤ length self.now.bytes.now }
+        ensures all { tokens self.now.bytes.now ≡ map seen_token (take result.0 room.new) ++ tokens (drop result.1 self.now.bytes.now) }
+    {
+        let mut count = 0;
+        let mut at = 0;
+        while count < room.len() {
+            match self.token_at(at) {
+                Ok(Some(token)) => {
+                    room[count] = Token {
+                        kind: token.kind,
+                        bytes: token.bytes,
+                    };
+                    count += 1;
+                    at = token.to;
+                }
+                _ => return (count, at),
+            }
+        }
+        (count, at)
     }
 }
