@@ -29,7 +29,7 @@ use ir_lines::sections::{BlockLines, Definition, HeadNames, blocks};
 use ir_reader::{NumberedReading, Reading};
 use module_build::build::owned;
 use module_build::heads::arguments_of;
-use module_build::lines::{behind, keep, resolve_line};
+use module_build::lines::{behind, resolve_line};
 use module_build::scope::Scope;
 use std::alloc::{AllocError, Global};
 
@@ -56,8 +56,15 @@ fn insts(
 {
     let mut insts = Vec::with_capacity(alloc, room_for(lines))?;
     for (i, line) in lines.iter().enumerate() {
-        let made = resolve_line(scope, alloc, line, behind(lines, i), first)?;
-        keep(&mut insts, numbers, line.line, made)?;
+        resolve_line(
+            scope,
+            alloc,
+            line,
+            behind(lines, i),
+            &mut insts,
+            numbers,
+            first,
+        )?;
     }
     Ok(insts)
 }
