@@ -8,7 +8,7 @@ use Rattle.std.proofs.lemmas.List.{length-set, take_more, length-replicate, take
 use Rattle.std.proofs.lemmas.List.Elements.{Contains-append_left, Contains-append_right, Contains-append_cases, filter_map-append}
 use Rattle.std.proofs.lemmas.Option.{none-some, same_Some, slice_get_within}
 use Rattle.list_laws.proofs.Places.{cases_below, get_map, map_back}
-use Rattle.list_laws.proofs.Contents.{contains_none, contains_one, contains_first, contains_later, get_contained, all_at, all_contained}
+use Rattle.list_laws.proofs.Contents.{contains_get, contains_none, contains_one, contains_first, contains_later, get_contained, all_at, all_contained}
 use Rattle.std.proofs.lemmas.List.Folds.{list_any_at}
 use Rattle.ir_ast.specs.Faults.DerivedEscapes.{values_leaving, KeepsDerived}
 use Rattle.edge_rows.proofs.Rows.{pushed, pushed-kept, pushed-added, pushed-source}
@@ -22,7 +22,7 @@ use Rattle.ir_ast.specs.Values.{Definition, argument, outcome, definitions_of, G
 use Rattle.ir_ast.specs.Operands.{value_in, values_used}
 use Rattle.ir_ast.specs.Derived.{is_step, is_merge, Derived, by_step, by_merge}
 use Rattle.body_tables.specs.Bodies.{inst_of}
-use Rattle.body_tables.specs.Derivations.{AddsUsers, Follows, steps_by, merged_by, UsedBy, StepsAt, AreSources, AreMarks, MarksDerived, has_mark}
+use Rattle.body_tables.specs.Derivations.{AddsUsers, Follows, steps_by, merged_by, UsedBy, StepsAt, AreSources, AreMarks, MarksDerived, gives_step, has_mark}
 
 -- ---- adding users
 
@@ -310,3 +310,17 @@ escapes-iff func marks inst lets are is = (
     by false e n = absurd (n (all_contained (λ (value : ℕ). ¬ Derived func value) (values_leaving inst)
         (λ value there derived. false≢true (sym e ∙ found-any (has_mark marks) (values_leaving inst) value there
         (of-mark marks value (are.complete value derived))))))
+
+-- ---- without a step
+
+none_derived : (func : Function) → list_any gives_step (map inst_of (definitions_of func)) ≡ false → (value : ℕ) → Derived func value → ⊥
+none_derived func none _ (by_step value inst gives step) =
+    let givers = map inst_of (definitions_of func) in
+    false≢true (sym none ∙ found-any gives_step givers (Some inst) (contains_get givers value (Some inst) (at_gives func value inst gives)) step)
+none_derived func none _ (by_merge value operand inst gives merge used derived) = none_derived func none operand derived
+
+pub nothing_derived : (func : Function) → list_any gives_step (map inst_of (definitions_of func)) ≡ false → MarksDerived func []
+nothing_derived func none = record {
+  sound = λ value marked. absurd (none-some true marked);
+  complete = λ value derived. absurd (none_derived func none value derived);
+}

@@ -15,11 +15,21 @@ pub fn instructions(alloc: Global, func: &Func) -> Result<Vec<&Inst>, Memory>
     ensures insts { IfOk result (λ insts. seen_insts insts.items ≡ instructions_of func.now.content.blocks) }
     ensures few { length (instructions_of func.now.content.blocks) < 2 ^ 30 }
 {
-    let mut insts = Vec::new(alloc);
+    let room = room_for(func.blocks());
+    let mut insts = Vec::with_capacity(alloc, room)?;
     for block in func.blocks() {
         add_block(block, &mut insts)?;
     }
     Ok(insts)
+}
+
+// Room for the instructions of all blocks.
+fn room_for(blocks: &[Block]) -> usize {
+    let mut room: usize = 0;
+    for block in blocks {
+        room = room.saturating_add(block.insts().len());
+    }
+    room
 }
 
 fn add_block<'a>(block: &'a Block, insts: &mut Vec<&'a Inst>) -> Result<(), Memory>
@@ -59,7 +69,8 @@ pub fn types(alloc: Global, func: &Func, insts: &[&Inst]) -> Result<Vec<Ty>, Mem
     requires { seen_insts insts.now ≡ instructions_of func.now.content.blocks }
     ensures { IfOk result (λ types. types.items ≡ value_types func.now.content) }
 {
-    let mut types = Vec::new(alloc);
+    let room = func.args().len().saturating_add(insts.len());
+    let mut types = Vec::with_capacity(alloc, room)?;
     for arg in func.args() {
         types.push(arg.ty)?;
     }
@@ -88,7 +99,8 @@ pub(crate) fn givers<'a>(
     requires { seen_insts insts.now ≡ instructions_of func.now.content.blocks }
     ensures { IfOk result (λ givers. map (option_map (λ inst. inst.now)) givers.items ≡ map inst_of (definitions_of func.now.content)) }
 {
-    let mut givers = Vec::new(alloc);
+    let room = func.args().len().saturating_add(insts.len());
+    let mut givers = Vec::with_capacity(alloc, room)?;
     for _arg in func.args() {
         givers.push(None)?;
     }

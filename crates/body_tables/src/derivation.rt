@@ -5,7 +5,7 @@ ghost use Rattle.std.specs.List.{filter_map, list_any};
 ghost use Rattle.std.specs.Option.{option_map, option_to_list};
 ghost use Rattle.ir_ast.specs.Operands.{value_in, values_used};
 ghost use Rattle.ir_ast.specs.Faults.DerivedEscapes.{values_leaving};
-ghost use Rattle.body_tables.specs.Derivations.{AddsUsers, Follows, AreSources, AreMarks, MarksDerived, has_mark};
+ghost use Rattle.body_tables.specs.Derivations.{AddsUsers, Follows, AreSources, AreMarks, MarksDerived, gives_step, has_mark};
 ghost use Rattle.body_tables.specs.Bodies.{seen_insts};
 ghost use Rattle.ir_ast.specs.Funcs.{instructions_of};
 
@@ -45,6 +45,27 @@ fn marks(alloc: Global, givers: &[Option<&Inst>]) -> Result<Vec<bool>, Memory>
 {
     let found = sources_of(alloc, givers)?;
     Ok(reached_from(alloc, &found, found.steps.as_slice())?)
+}
+
+// Whether a value is given by a `getelementptr`; without one no value is derived.
+fn has_step(givers: &[Option<&Inst>]) -> bool
+    ensures { result ≡ list_any gives_step (map (option_map (λ inst. inst.now)) givers.now) }
+{
+    for giver in givers {
+        if gives_step(*giver) {
+            return true;
+        }
+    }
+    false
+}
+
+fn gives_step(giver: Option<&Inst>) -> bool
+    ensures { result ≡ gives_step (option_map (λ inst. inst.now) giver.entry) }
+{
+    match giver {
+        Some(inst) => matches!(inst.op(), Op::Gep { .. }),
+        None => false,
+    }
 }
 
 fn sources_of(alloc: Global, givers: &[Option<&Inst>]) -> Result<Sources, AllocError>
@@ -98,7 +119,7 @@ fn note_inst(
 fn no_users(alloc: Global, count: usize) -> Result<Vec<Vec<usize>>, AllocError>
     ensures { IfOk result (λ users. map (λ row. row.items) users.items ≡ replicate count []) }
 {
-    let mut users = Vec::new(alloc);
+    let mut users = Vec::with_capacity(alloc, count)?;
     for _ in 0..count {
         users.push(Vec::new(alloc))?;
     }
@@ -172,6 +193,9 @@ pub fn derived(alloc: Global, func: &Func, insts: &[&Inst]) -> Result<Vec<bool>,
     ensures { IfOk result (λ marks. MarksDerived func.now.content marks.items) }
 {
     let givers = givers(alloc, func, insts)?;
+    if !has_step(givers.as_slice()) {
+        return Ok(Vec::new(alloc));
+    }
     let marks = marks(alloc, givers.as_slice())?;
     Ok(marks)
 }

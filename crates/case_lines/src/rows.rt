@@ -55,6 +55,14 @@ impl CaseLines {
         Ok(())
     }
 
+    /// Adds an instruction without cases behind the others.
+    pub fn push_none(&mut self) -> Result<(), AllocError>
+        ensures { OnOk result (self.new ≡ self.old ++ [] ∷ []) }
+    {
+        self.stops.push(self.lines.len())?;
+        Ok(())
+    }
+
     /// How many instructions there are.
     pub fn len(&self) -> usize
         ensures { result ≡ length self.now }

@@ -99,7 +99,7 @@ fn push_inst(
 fn types_of(alloc: Global, passed: &[Passed]) -> Result<Types, AllocError>
     ensures { IfOk result (λ types. types ≡ map given_type (map seen_passed passed.now)) }
 {
-    let mut types = Vec::new(alloc);
+    let mut types = Vec::with_capacity(alloc, passed.len())?;
     for one in passed {
         types.push(type_of(passed_type(one)))?;
     }
