@@ -66,7 +66,7 @@ fn push_none(reading: &Reading, cases: &mut CaseLines) -> Result<(), AllocError>
     ensures { OnOk result (cases.new ≡ cases.old ++ (if is_instruction (said reading.now) then [] ∷ [] else [])) }
 {
     if is_instruction(reading) {
-        cases.push(&[])?;
+        cases.push_none()?;
     }
     Ok(())
 }

@@ -129,7 +129,7 @@ fn function(
     ensures made { IfOk result (λ made. made ≡ lined_function (known_in scope.now) (seen_definition func.now)) }
     ensures noted { OnOk result (Notes first.old.found first.new.found (BlocksLost scope.now.form (tables_in scope.now) (map seen_block blocks.now))) }
 {
-    let mut numbers = Vec::new(alloc);
+    let mut numbers = Vec::with_capacity(alloc, func.body.len())?;
     let built = built_blocks(scope, alloc, blocks, &mut numbers, first)?;
     let name = owned(alloc, func.name)?;
     let args = arguments_of(alloc, func.line, func.arguments, names.arguments.as_slice())?;
