@@ -61,9 +61,5 @@ pub record MarksDerived (func : Function) (marks : List Bool) : Type 0 where
   pub sound : (value : ℕ) → slice_get marks value ≡ Some true → Derived func value
   pub complete : (value : ℕ) → Derived func value → slice_get marks value ≡ Some true
 
-abbrev pub gives_step : Option Instruction → Bool
-gives_step None = false
-gives_step (Some inst) = is_step inst.op
-
 abbrev pub has_mark : List Bool → ℕ → Bool
 has_mark marks value = slice_index_or marks value false

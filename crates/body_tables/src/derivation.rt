@@ -5,8 +5,9 @@ ghost use Rattle.std.specs.List.{filter_map, list_any};
 ghost use Rattle.std.specs.Option.{option_map, option_to_list};
 ghost use Rattle.ir_ast.specs.Operands.{value_in, values_used};
 ghost use Rattle.ir_ast.specs.Faults.DerivedEscapes.{values_leaving};
-ghost use Rattle.body_tables.specs.Derivations.{AddsUsers, Follows, AreSources, AreMarks, MarksDerived, gives_step, has_mark};
+ghost use Rattle.body_tables.specs.Derivations.{AddsUsers, Follows, AreSources, AreMarks, MarksDerived, has_mark};
 ghost use Rattle.body_tables.specs.Bodies.{seen_insts};
+ghost use Rattle.ir_ast.specs.Derived.{is_step};
 ghost use Rattle.ir_ast.specs.Funcs.{instructions_of};
 
 use crate::bodies::givers;
@@ -47,25 +48,22 @@ fn marks(alloc: Global, givers: &[Option<&Inst>]) -> Result<Vec<bool>, Memory>
     Ok(reached_from(alloc, &found, found.steps.as_slice())?)
 }
 
-// Whether a value is given by a `getelementptr`; without one no value is derived.
-fn has_step(givers: &[Option<&Inst>]) -> bool
-    ensures { result ≡ list_any gives_step (map (option_map (λ inst. inst.now)) givers.now) }
+// Whether one of these is a `getelementptr`; without one no value is derived.
+fn has_step(insts: &[&Inst]) -> bool
+    ensures { result ≡ list_any (λ inst. is_step inst.op) (seen_insts insts.now) }
 {
-    for giver in givers {
-        if gives_step(*giver) {
+    for inst in insts {
+        if is_step(inst.op()) {
             return true;
         }
     }
     false
 }
 
-fn gives_step(giver: Option<&Inst>) -> bool
-    ensures { result ≡ gives_step (option_map (λ inst. inst.now) giver.entry) }
+fn is_step(op: &Op) -> bool
+    ensures { result ≡ is_step op.now }
 {
-    match giver {
-        Some(inst) => matches!(inst.op(), Op::Gep { .. }),
-        None => false,
-    }
+    matches!(op, Op::Gep { .. })
 }
 
 fn sources_of(alloc: Global, givers: &[Option<&Inst>]) -> Result<Sources, AllocError>
@@ -187,15 +185,16 @@ fn push_user(users: &mut Vec<Vec<usize>>, value: usize, user: usize) -> Result<(
     Ok(())
 }
 
-/// For each value of a function that has these instructions whether it is derived.
+/// For each value of a function that has these instructions whether it is derived; no marks where no
+/// instruction is a `getelementptr`.
 pub fn derived(alloc: Global, func: &Func, insts: &[&Inst]) -> Result<Vec<bool>, Memory>
     requires { seen_insts insts.now ≡ instructions_of func.now.content.blocks }
     ensures { IfOk result (λ marks. MarksDerived func.now.content marks.items) }
 {
-    let givers = givers(alloc, func, insts)?;
-    if !has_step(givers.as_slice()) {
+    if !has_step(insts) {
         return Ok(Vec::new(alloc));
     }
+    let givers = givers(alloc, func, insts)?;
     let marks = marks(alloc, givers.as_slice())?;
     Ok(marks)
 }
