@@ -93,6 +93,9 @@ fn note_escapes(
     ensures { OnOk result (Notes first.old.found first.new.found (FoundIn (EscapeAt func.now) (insts_of func.now))) }
 {
     let marks = derived(alloc, func, insts)?;
+    if marks.is_empty() {
+        return Ok(());
+    }
     for (place, inst) in insts.iter().enumerate() {
         first.note_if(
             lets_out(marks.as_slice(), inst),

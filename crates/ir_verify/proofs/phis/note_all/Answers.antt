@@ -10,7 +10,7 @@ use Rattle.ir_verify.specs.Phis.{times}
 use Rattle.ir_verify.proofs.Founds.{notes-step}
 use Rattle.body_tables.proofs.Elements.{item-at}
 use Rattle.ir_verify.proofs.PhiLemmas.{start-more, start-within}
-use Rattle.ir_verify.proofs.phis.note_phis.Goals as goal
+use Rattle.ir_verify.proofs.phis.note_all.Goals as goal
 
 pub note_block-requires-clause-into : goal.note_block-requires-clause-into
 note_block-requires-clause-into c = λ from.

@@ -1,5 +1,5 @@
-use Rattle.std.proofs.Common.{◌≡◌, ◌∙◌, List, Bool, length, sym, ap, arith}
-use Rattle.std.specs.Prelude.{slice_get, Some}
+use Rattle.std.proofs.Common.{◌≡◌, ◌∙◌, ℕ, List, Bool, length, sym, ap, arith, rules}
+use Rattle.std.specs.Prelude.{slice_get, Some, nat_eq}
 use Rattle.std.specs.List.{list_any}
 use Rattle.std.specs.Borrow.{Bor}
 use Rattle.std.proofs.lemmas.List.{length-map}
@@ -8,10 +8,17 @@ use Rattle.ir_ast.specs.Faults.DerivedEscapes.{values_leaving}
 use Rattle.ir_verify.specs.Bodies.{insts_of, line_in}
 use Rattle.body_tables.specs.Derivations.{has_mark}
 use Rattle.ir_verify.specs.FunctionFaults.{EscapeAt}
+use Rattle.ir_verify.proofs.Escapes.{nothing-escapes}
 use Rattle.ir_verify.proofs.Founds.{notes-step, notes-all, notes-at_line}
 use Rattle.body_tables.proofs.Elements.{seen-at}
 use Rattle.body_tables.proofs.UserLemmas.{escapes-iff}
 use Rattle.ir_verify.proofs.verify.note_escapes.Goals as goal
+
+pub returns-then-is_empty : goal.returns-then-is_empty
+returns-then-is_empty c =
+    let long : length c.in_ok-marks.marks.items ≡ c.in_ok-marks.marks.len = search rules in
+    nothing-escapes c.args.func.now c.in_ok-marks.marks.items c.args.first.now.found
+    (ap (λ (n : ℕ). nat_eq n 0) long ∙ sym c.is_empty.ensures ∙ c.if-is_empty.true) c.in_ok-marks.ensures
 
 pub loop-place-preserved : goal.loop-place-preserved
 loop-place-preserved c =
