@@ -33,13 +33,15 @@ use module_build::lines::{behind, resolve_line};
 use module_build::scope::Scope;
 use std::alloc::{AllocError, Global};
 
-// The room for the instructions of the lines of a block; behind a `switch` stand its cases, which are none.
+// The room for the instructions of the lines of a block: behind a `switch`, the last, stand its cases, which are none.
 fn room_for(lines: &[NumberedReading]) -> usize {
-    lines.iter().take_while(|line| !is_case(line)).count()
+    let cases = lines.iter().rev().take_while(|line| is_case(line)).count();
+    lines.len().saturating_sub(cases)
 }
 
+// Whether it belongs to a `switch`.
 fn is_case(line: &NumberedReading) -> bool {
-    matches!(line.reading, Reading::Case { .. })
+    matches!(line.reading, Reading::Case { .. } | Reading::SwitchEnd)
 }
 
 fn insts(
