@@ -21,7 +21,7 @@ use Rattle.ir_ast.specs.Funcs.{Function, instructions_of}
 use Rattle.ir_ast.specs.Values.{Definition, argument, outcome, definitions_of, Gives}
 use Rattle.ir_ast.specs.Operands.{value_in, values_used}
 use Rattle.ir_ast.specs.Derived.{is_step, is_merge, Derived, by_step, by_merge}
-use Rattle.body_tables.specs.Bodies.{inst_of}
+use Rattle.body_tables.specs.Bodies.{inst_of, any_step}
 use Rattle.body_tables.specs.Derivations.{AddsUsers, Follows, steps_by, merged_by, UsedBy, StepsAt, AreSources, AreMarks, MarksDerived, has_mark}
 
 -- ---- adding users
@@ -337,18 +337,12 @@ gives-inside func value inst gives =
           subst (λ (one : Instruction). Contains insts one) same (contains-filter (λ (one : Instruction). is_some one.result) insts i.of i.inside))
     ]
 
-none_derived : (func : Function) → list_any (λ inst. is_step inst.op) (instructions_of func.blocks) ≡ false → (value : ℕ) → Derived func value → ⊥
+none_derived : (func : Function) → any_step (instructions_of func.blocks) ≡ false → (value : ℕ) → Derived func value → ⊥
 none_derived func none _ (by_step value inst gives step) =
     false≢true (sym none ∙ found-any (λ (one : Instruction). is_step one.op) (instructions_of func.blocks) inst (gives-inside func value inst gives) step)
 none_derived func none _ (by_merge value operand inst gives merge used derived) = none_derived func none operand derived
 
-pub nothing_derived : (func : Function) → list_any (λ inst. is_step inst.op) (instructions_of func.blocks) ≡ false → MarksDerived func []
-nothing_derived func none = record {
-  sound = λ value marked. absurd (none-some true marked);
-  complete = λ value derived. absurd (none_derived func none value derived);
-}
-
--- where nothing is marked, each instruction keeps what is derived
-pub keeps-unmarked : (func : Function) (inst : Instruction) → MarksDerived func [] → KeepsDerived func inst
-keeps-unmarked func inst are =
-    all_contained (λ (value : ℕ). ¬ Derived func value) (values_leaving inst) (λ value there derived. none-some true (are.complete value derived))
+-- without a step each instruction keeps what is derived
+pub keeps-without_step : (func : Function) (inst : Instruction) → any_step (instructions_of func.blocks) ≡ false → KeepsDerived func inst
+keeps-without_step func inst none =
+    all_contained (λ (value : ℕ). ¬ Derived func value) (values_leaving inst) (λ value there derived. none_derived func none value derived)

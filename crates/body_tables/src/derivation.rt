@@ -7,7 +7,6 @@ ghost use Rattle.ir_ast.specs.Operands.{value_in, values_used};
 ghost use Rattle.ir_ast.specs.Faults.DerivedEscapes.{values_leaving};
 ghost use Rattle.body_tables.specs.Derivations.{AddsUsers, Follows, AreSources, AreMarks, MarksDerived, has_mark};
 ghost use Rattle.body_tables.specs.Bodies.{seen_insts};
-ghost use Rattle.ir_ast.specs.Derived.{is_step};
 ghost use Rattle.ir_ast.specs.Funcs.{instructions_of};
 
 use crate::bodies::givers;
@@ -46,24 +45,6 @@ fn marks(alloc: Global, givers: &[Option<&Inst>]) -> Result<Vec<bool>, Memory>
 {
     let found = sources_of(alloc, givers)?;
     Ok(reached_from(alloc, &found, found.steps.as_slice())?)
-}
-
-// Whether one of these is a `getelementptr`; without one no value is derived.
-fn has_step(insts: &[&Inst]) -> bool
-    ensures { result ≡ list_any (λ inst. is_step inst.op) (seen_insts insts.now) }
-{
-    for inst in insts {
-        if is_step(inst.op()) {
-            return true;
-        }
-    }
-    false
-}
-
-fn is_step(op: &Op) -> bool
-    ensures { result ≡ is_step op.now }
-{
-    matches!(op, Op::Gep { .. })
 }
 
 fn sources_of(alloc: Global, givers: &[Option<&Inst>]) -> Result<Sources, AllocError>
@@ -185,15 +166,11 @@ fn push_user(users: &mut Vec<Vec<usize>>, value: usize, user: usize) -> Result<(
     Ok(())
 }
 
-/// For each value of a function that has these instructions whether it is derived; no marks where no
-/// instruction is a `getelementptr`.
+/// For each value of a function that has these instructions whether it is derived.
 pub fn derived(alloc: Global, func: &Func, insts: &[&Inst]) -> Result<Vec<bool>, Memory>
     requires { seen_insts insts.now ≡ instructions_of func.now.content.blocks }
     ensures { IfOk result (λ marks. MarksDerived func.now.content marks.items) }
 {
-    if !has_step(insts) {
-        return Ok(Vec::new(alloc));
-    }
     let givers = givers(alloc, func, insts)?;
     let marks = marks(alloc, givers.as_slice())?;
     Ok(marks)

@@ -1,7 +1,7 @@
 -- The entries of a phi, counted by block, and by their values.
 use Rattle.std.proofs.Common.{◌≡◌, ◌≢◌, ◌∙◌, ℕ, zero, suc, ◌+◌, ◌<◌, ◌≤◌, ◌⊎◌, inl, inr, Bool, true, false, not, cond, ◌&&◌, ◌||◌, List, [], ◌∷◌, ◌++◌, length, set, take, drop, refl, ap, sym, arith}
 use Rattle.std.specs.Prelude.{nat_eq, IsTrue, ◌↔◌, Option, Some, slice_get, slice_index}
-use Rattle.std.specs.List.{All, list_all, list_any}
+use Rattle.std.specs.List.{All, list_all}
 use Rattle.std.specs.List.Sorted.{IsNonDecreasing}
 use Rattle.std.specs.Str.{bytes_eq}
 use Rattle.std.proofs.lemmas.Bool.{not-true}
@@ -13,7 +13,7 @@ use Rattle.std.proofs.lemmas.List.Sums.{sum_by-cons}
 use Rattle.std.proofs.lemmas.List.Folds.{list_any_at}
 use Rattle.std.proofs.lemmas.Slice.Eq.{bytes_eq-Decides}
 use Rattle.list_laws.proofs.Places.{cases_below, get_some}
-use Rattle.list_laws.proofs.Contents.{all_from_at, contains_get}
+use Rattle.list_laws.proofs.Contents.{all_from_at, contains_get, joined_contains}
 use Rattle.sp_ids.specs.declared.ids.BlockId.{BlockId}
 use Rattle.ir_ast.specs.declared.ops.Operand.{Operand}
 use Rattle.ir_ast.specs.Insts.{Instruction}
@@ -26,8 +26,9 @@ use Rattle.ir_lines.specs.Notes.{Notes}
 use Rattle.ir_lines.proofs.NoteLemmas.{notes-nothing}
 use Rattle.ir_verify.specs.Founds.{FoundIn}
 use Rattle.ir_verify.specs.FunctionFaults.{BlockFaultAt, start_of}
-use Rattle.ir_verify.specs.Phis.{times, numbers_of, Counts, Agree, AreRight, IsWrong, has_phi}
+use Rattle.ir_verify.specs.Phis.{times, numbers_of, Counts, Agree, AreRight, IsWrong}
 use Rattle.ir_verify.proofs.CountLemmas.{count_by-map, IsApart, same-or-apart}
+use Rattle.body_tables.specs.Bodies.{any_phi}
 use Rattle.body_tables.proofs.Values.{taken_more}
 
 -- ---- labels, counted
@@ -259,14 +260,14 @@ wrong-by false late into inst early right w = absurd (w.1 (early, right refl))
 
 -- ---- without a phi
 
-any-at : {X : Type 0} (p : X → Bool) (xs : List X) (i : ℕ) (x : X) → slice_get xs i ≡ Some x → p x ≡ true → list_any p xs ≡ true
-any-at p xs i x at is = let k = contains_get xs i x at in list_any_at p xs k.0 x k.1 (ap p k.2 ∙ is)
-
-pub no-phis : (func : LinedFunction) (kept : Option Fault) → list_any has_phi func.content.blocks ≡ false
+pub no-phis : (func : LinedFunction) (kept : Option Fault) → any_phi (instructions_of func.content.blocks) ≡ false
     → Notes kept kept (FoundIn (BlockFaultAt func) func.content.blocks)
 no-phis func kept none = notes-nothing kept (FoundIn (BlockFaultAt func) func.content.blocks) (λ line code found.
     let inner = found.faulty in
-    let phi = any-at (λ (inst : Instruction). is_phi inst.op) found.here.insts inner.place inner.here inner.stands inner.faulty.2.0 in
-    let some = any-at has_phi func.content.blocks found.place found.here found.stands phi in
+    let at = joined_contains (λ (block : BasicBlock). block.insts) func.content.blocks found.here inner.here
+    (contains_get func.content.blocks found.place found.here found.stands) (contains_get found.here.insts inner.place inner.here inner.stands) in
+    let phi = λ (inst : Instruction). is_phi inst.op in
+    let some : any_phi (instructions_of func.content.blocks) ≡ true
+    = list_any_at phi (instructions_of func.content.blocks) at.0 inner.here at.1 (ap phi at.2 ∙ inner.faulty.2.0) in
     let bad : false ≡ true = sym none ∙ some in
     cc)

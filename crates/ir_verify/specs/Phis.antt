@@ -2,9 +2,7 @@
 use Rattle.std.specs.Prelude.{◌≡◌, ℕ, ◌+◌, ◌<◌, ◌==◌, Bool, true, false, List, [], map, length, count_by, slice_get, slice_index_or, if◌then◌else◌}
 use Rattle.sp_ids.specs.declared.ids.BlockId.{BlockId}
 use Rattle.ir_ast.specs.declared.ops.Operand.{Operand}
-use Rattle.std.specs.List.{list_any}
 use Rattle.ir_ast.specs.Insts.{Instruction}
-use Rattle.ir_ast.specs.Blocks.{BasicBlock}
 use Rattle.ir_ast.specs.Funcs.{Function}
 use Rattle.ir_ast.specs.Faults.PhiEdges.{is_phi}
 use Rattle.ir_ast.specs.Edges.{count_of, edges}
@@ -41,6 +39,3 @@ AreRight into phi = Counts into phi.labels × Agree phi.labels phi.operands
 -- a phi that may stand after an instruction that is none
 abbrev pub IsWrong : Bool → List ℕ → Instruction → Type 0
 IsWrong late into inst = (is_phi inst.op ≡ true) × ¬ ((late ≡ false) × AreRight into inst)
-
-abbrev pub has_phi : BasicBlock → Bool
-has_phi block = list_any (λ inst. is_phi inst.op) block.insts

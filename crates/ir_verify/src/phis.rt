@@ -1,14 +1,16 @@
 //! The edges into blocks and the entries of phis.
 
 ghost use Rattle.std.specs.Prelude.{◌≡◌, ◌≢◌, ◌^◌, ◌<◌, ◌+◌, ◌++◌, ◌∷◌, ◌↔◌, ◌||◌, ℕ, [], false, true, not, replicate, IsTrue, map, length, take, slice_get, slice_set, slice_index_or, IfOk, OnOk};
-ghost use Rattle.std.specs.List.{All, list_any};
+ghost use Rattle.std.specs.List.{All};
 ghost use Rattle.std.specs.List.Sorted.{IsNonDecreasing};
 ghost use Rattle.ir_ast.specs.Edges.{targets, edges};
 ghost use Rattle.ir_ast.specs.Faults.PhiEdges.{is_phi, PhiIsRight};
+ghost use Rattle.ir_ast.specs.Funcs.{instructions_of};
+ghost use Rattle.body_tables.specs.Bodies.{any_phi};
 ghost use Rattle.ir_verify.specs.Founds.{FoundIn};
 ghost use Rattle.ir_verify.specs.FunctionFaults.{PhiFaultAt, BlockFaultAt};
 ghost use Rattle.ir_lines.specs.Notes.{Notes};
-ghost use Rattle.ir_verify.specs.Phis.{times, numbers_of, AddsEdges, AreEdges, Counts, Agree, AreRight, IsWrong, has_phi};
+ghost use Rattle.ir_verify.specs.Phis.{times, numbers_of, AddsEdges, AreEdges, Counts, Agree, AreRight, IsWrong};
 
 use ir_ast::{Block, Func, Inst, Op, Operand};
 use ir_lines::best::First;
@@ -265,39 +267,17 @@ fn note_all(alloc: Global, func: &Func, first: &mut First) -> Result<(), Memory>
     Ok(())
 }
 
-fn any_phi(insts: &[Inst]) -> bool
-    ensures { result ≡ list_any (λ inst. is_phi inst.op) insts.now }
-{
-    for inst in insts {
-        if is_phi(inst.op()) {
-            return true;
-        }
-    }
-    false
-}
-
-fn has_phi(block: &Block) -> bool
-    ensures { result ≡ has_phi block.now }
-{
-    any_phi(block.insts())
-}
-
-fn have_phi(blocks: &[Block]) -> bool
-    ensures { result ≡ list_any has_phi blocks.now }
-{
-    for block in blocks {
-        if has_phi(block) {
-            return true;
-        }
-    }
-    false
-}
-
 /// Notes the phis of a function that aren't right.
-pub(crate) fn note_phis(alloc: Global, func: &Func, first: &mut First) -> Result<(), Memory>
+pub(crate) fn note_phis(
+    alloc: Global,
+    func: &Func,
+    has_phi: bool,
+    first: &mut First,
+) -> Result<(), Memory>
+    requires { has_phi ≡ any_phi (instructions_of func.now.content.blocks) }
     ensures { OnOk result (Notes first.old.found first.new.found (FoundIn (BlockFaultAt func.now) func.now.content.blocks)) }
 {
-    if !have_phi(func.blocks()) {
+    if !has_phi {
         return Ok(());
     }
     note_all(alloc, func, first)

@@ -1,5 +1,5 @@
-use Rattle.std.proofs.Common.{◌≡◌, ◌∙◌, ℕ, List, Bool, length, sym, ap, arith, rules}
-use Rattle.std.specs.Prelude.{slice_get, Some, nat_eq}
+use Rattle.std.proofs.Common.{◌≡◌, ◌∙◌, List, Bool, length, sym, ap, arith}
+use Rattle.std.specs.Prelude.{slice_get, Some}
 use Rattle.std.specs.List.{list_any}
 use Rattle.std.specs.Borrow.{Bor}
 use Rattle.std.proofs.lemmas.List.{length-map}
@@ -14,11 +14,8 @@ use Rattle.body_tables.proofs.Elements.{seen-at}
 use Rattle.body_tables.proofs.UserLemmas.{escapes-iff}
 use Rattle.ir_verify.proofs.verify.note_escapes.Goals as goal
 
-pub returns-then-is_empty : goal.returns-then-is_empty
-returns-then-is_empty c =
-    let long : length c.in_ok-marks.marks.items ≡ c.in_ok-marks.marks.len = search rules in
-    nothing-escapes c.args.func.now c.in_ok-marks.marks.items c.args.first.now.found
-    (ap (λ (n : ℕ). nat_eq n 0) long ∙ sym c.is_empty.ensures ∙ c.if-is_empty.true) c.in_ok-marks.ensures
+pub returns-then-not-has_step : goal.returns-then-not-has_step
+returns-then-not-has_step c = nothing-escapes c.args.func.now c.args.first.now.found (sym c.requires.steps ∙ c.if-not-has_step.true)
 
 pub loop-place-preserved : goal.loop-place-preserved
 loop-place-preserved c =
