@@ -1,14 +1,14 @@
 -- Users of values, and the marks of a search along them.
-use Rattle.std.proofs.Common.{◌≡◌, ◌∙◌, ℕ, zero, suc, ◌<◌, ◌≤◌, ◌+◌, Bool, true, false, cond, List, [], ◌∷◌, ◌++◌, length, get_or, set, take, replicate, Option, Some, None, slice_get, refl, ap, sym, subst, arith, inl, inr, ◌⊎◌, append-nil}
+use Rattle.std.proofs.Common.{◌≡◌, ◌∙◌, ℕ, zero, suc, ◌<◌, ◌≤◌, ◌+◌, Bool, true, false, cond, List, [], ◌∷◌, ◌++◌, length, get_or, set, take, replicate, Option, Some, None, slice_get, is_some, refl, ap, sym, subst, arith, inl, inr, ◌⊎◌, append-nil}
 use Rattle.std.specs.Prelude.{map, ◌||◌, IsTrue, ◌↔◌}
-use Rattle.std.specs.List.{Contains, filter_map, list_any}
+use Rattle.std.specs.List.{Contains, filter, filter_map, list_any}
 use Rattle.std.specs.Option.{option_to_list}
 use Rattle.std.proofs.lemmas.Bool.{false≢true}
 use Rattle.std.proofs.lemmas.List.{length-set, take_more, length-replicate, take-map, length-map, get_or-map}
 use Rattle.std.proofs.lemmas.List.Elements.{Contains-append_left, Contains-append_right, Contains-append_cases, filter_map-append}
 use Rattle.std.proofs.lemmas.Option.{none-some, same_Some, slice_get_within}
 use Rattle.list_laws.proofs.Places.{cases_below, get_map, map_back}
-use Rattle.list_laws.proofs.Contents.{contains_none, contains_one, contains_first, contains_later, get_contained, all_at, all_contained}
+use Rattle.list_laws.proofs.Contents.{contains_get, contains_cons, contains_image, contains_none, contains_one, contains_first, contains_later, get_contained, all_at, all_contained}
 use Rattle.std.proofs.lemmas.List.Folds.{list_any_at}
 use Rattle.ir_ast.specs.Faults.DerivedEscapes.{values_leaving, KeepsDerived}
 use Rattle.edge_rows.proofs.Rows.{pushed, pushed-kept, pushed-added, pushed-source}
@@ -17,11 +17,11 @@ use Rattle.graph_search.specs.Paths.{ReachedFrom, at_start, along}
 use Rattle.ir_ast.specs.declared.ops.Operand.{Operand}
 use Rattle.ir_ast.specs.declared.types.Ty.{Ty}
 use Rattle.ir_ast.specs.Insts.{Instruction}
-use Rattle.ir_ast.specs.Funcs.{Function}
+use Rattle.ir_ast.specs.Funcs.{Function, instructions_of}
 use Rattle.ir_ast.specs.Values.{Definition, argument, outcome, definitions_of, Gives}
 use Rattle.ir_ast.specs.Operands.{value_in, values_used}
 use Rattle.ir_ast.specs.Derived.{is_step, is_merge, Derived, by_step, by_merge}
-use Rattle.body_tables.specs.Bodies.{inst_of}
+use Rattle.body_tables.specs.Bodies.{inst_of, any_step}
 use Rattle.body_tables.specs.Derivations.{AddsUsers, Follows, steps_by, merged_by, UsedBy, StepsAt, AreSources, AreMarks, MarksDerived, has_mark}
 
 -- ---- adding users
@@ -310,3 +310,39 @@ escapes-iff func marks inst lets are is = (
     by false e n = absurd (n (all_contained (λ (value : ℕ). ¬ Derived func value) (values_leaving inst)
         (λ value there derived. false≢true (sym e ∙ found-any (has_mark marks) (values_leaving inst) value there
         (of-mark marks value (are.complete value derived))))))
+
+-- ---- without a step
+
+contains-filter : {X : Type 0} (p : X → Bool) (xs : List X) (x : X) → Contains (filter p xs) x → Contains xs x
+contains-filter p [] x there = absurd (contains_none x there)
+contains-filter {X} p (y ∷ ys) x there = by (p y) (contains-filter p ys x) there
+  where
+    by : (b : Bool) → (Contains (filter p ys) x → Contains ys x) → Contains (cond b (y ∷ filter p ys) (filter p ys)) x → Contains (y ∷ ys) x
+    by true more here = elim (contains_cons y x (filter p ys) here) [
+      | inl same ↦ subst (λ (z : X). Contains (y ∷ ys) z) same (contains_first y ys)
+      | inr later ↦ contains_later y x ys (more later)
+    ]
+    by false more here = contains_later y x ys (more here)
+
+gives-inside : (func : Function) (value : ℕ) (inst : Instruction) → Gives func value inst → Contains (instructions_of func.blocks) inst
+gives-inside func value inst gives =
+    let insts = instructions_of func.blocks in
+    let results = filter (λ (one : Instruction). is_some one.result) insts in
+    elim (Contains-append_cases (map argument func.args) (map outcome results) (outcome inst)
+    (contains_get (definitions_of func) value (outcome inst) gives)) [
+      | inl arg ↦ (let i = contains_image argument func.args (outcome inst) arg in
+          absurd (let bad : argument i.of ≡ outcome inst = i.is in cc))
+      | inr result ↦ (let i = contains_image outcome results (outcome inst) result in
+          let same : i.of ≡ inst = (let e : outcome i.of ≡ outcome inst = i.is in cc) in
+          subst (λ (one : Instruction). Contains insts one) same (contains-filter (λ (one : Instruction). is_some one.result) insts i.of i.inside))
+    ]
+
+none_derived : (func : Function) → any_step (instructions_of func.blocks) ≡ false → (value : ℕ) → Derived func value → ⊥
+none_derived func none _ (by_step value inst gives step) =
+    false≢true (sym none ∙ found-any (λ (one : Instruction). is_step one.op) (instructions_of func.blocks) inst (gives-inside func value inst gives) step)
+none_derived func none _ (by_merge value operand inst gives merge used derived) = none_derived func none operand derived
+
+-- without a step each instruction keeps what is derived
+pub keeps-without_step : (func : Function) (inst : Instruction) → any_step (instructions_of func.blocks) ≡ false → KeepsDerived func inst
+keeps-without_step func inst none =
+    all_contained (λ (value : ℕ). ¬ Derived func value) (values_leaving inst) (λ value there derived. none_derived func none value derived)

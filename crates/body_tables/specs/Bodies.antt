@@ -1,7 +1,10 @@
 -- The instructions of a function as references, and what they give.
-use Rattle.std.specs.Prelude.{if◌then◌else◌, is_some, List, [], ◌∷◌, Option, Some, None, map}
+use Rattle.std.specs.Prelude.{Bool, if◌then◌else◌, is_some, List, [], ◌∷◌, Option, Some, None, map}
 use Rattle.std.specs.Borrow.{Bor}
+use Rattle.std.specs.List.{list_any}
 use Rattle.ir_ast.specs.Insts.{Instruction}
+use Rattle.ir_ast.specs.Derived.{is_step}
+use Rattle.ir_ast.specs.Faults.PhiEdges.{is_phi}
 use Rattle.ir_ast.specs.Values.{Definition, argument, outcome}
 
 abbrev pub seen_insts : List (Bor Instruction) → List Instruction
@@ -13,3 +16,10 @@ inst_of (outcome inst) = Some inst
 
 abbrev pub given_by : Instruction → List Definition
 given_by inst = if is_some inst.result then outcome inst ∷ [] else []
+
+-- whether one of these is a `getelementptr`, or a phi
+abbrev pub any_step : List Instruction → Bool
+any_step insts = list_any (λ inst. is_step inst.op) insts
+
+abbrev pub any_phi : List Instruction → Bool
+any_phi insts = list_any (λ inst. is_phi inst.op) insts

@@ -1,10 +1,12 @@
 //! A function as flat tables: its instructions in text order, and its values by number.
 
-ghost use Rattle.std.specs.Prelude.{◌≡◌, ◌<◌, ◌^◌, ◌++◌, length, map, IfOk};
+ghost use Rattle.std.specs.Prelude.{◌≡◌, ◌||◌, ◌<◌, ◌^◌, ◌++◌, length, map, IfOk};
 ghost use Rattle.std.specs.Option.{option_map};
 ghost use Rattle.ir_ast.specs.Funcs.{instructions_of};
 ghost use Rattle.ir_ast.specs.Values.{definitions_of, definition_type, outcome_type, value_types};
-ghost use Rattle.body_tables.specs.Bodies.{seen_insts, inst_of, given_by};
+ghost use Rattle.ir_ast.specs.Derived.{is_step};
+ghost use Rattle.ir_ast.specs.Faults.PhiEdges.{is_phi};
+ghost use Rattle.body_tables.specs.Bodies.{seen_insts, inst_of, given_by, any_step, any_phi};
 
 use ir_ast::{Block, Func, Inst, Op, Ty};
 use sp_ids::Memory;
@@ -15,11 +17,21 @@ pub fn instructions(alloc: Global, func: &Func) -> Result<Vec<&Inst>, Memory>
     ensures insts { IfOk result (λ insts. seen_insts insts.items ≡ instructions_of func.now.content.blocks) }
     ensures few { length (instructions_of func.now.content.blocks) < 2 ^ 30 }
 {
-    let mut insts = Vec::new(alloc);
+    let room = room_for(func.blocks());
+    let mut insts = Vec::with_capacity(alloc, room)?;
     for block in func.blocks() {
         add_block(block, &mut insts)?;
     }
     Ok(insts)
+}
+
+// Room for the instructions of all blocks.
+fn room_for(blocks: &[Block]) -> usize {
+    let mut room: usize = 0;
+    for block in blocks {
+        room = room.saturating_add(block.insts().len());
+    }
+    room
 }
 
 fn add_block<'a>(block: &'a Block, insts: &mut Vec<&'a Inst>) -> Result<(), Memory>
@@ -54,19 +66,54 @@ fn push_type(inst: &Inst, types: &mut Vec<Ty>) -> Result<(), Memory>
     Ok(())
 }
 
-/// The types of the values of a function that has these instructions.
-pub fn types(alloc: Global, func: &Func, insts: &[&Inst]) -> Result<Vec<Ty>, Memory>
-    requires { seen_insts insts.now ≡ instructions_of func.now.content.blocks }
-    ensures { IfOk result (λ types. types.items ≡ value_types func.now.content) }
+// Whether there is a step, with one more instruction.
+fn or_step(has_step: bool, inst: &Inst) -> bool
+    ensures { result ≡ (has_step || is_step inst.now.op) }
 {
-    let mut types = Vec::new(alloc);
+    has_step || matches!(inst.op(), Op::Gep { .. })
+}
+
+// Whether there is a phi, with one more instruction.
+fn or_phi(has_phi: bool, inst: &Inst) -> bool
+    ensures { result ≡ (has_phi || is_phi inst.now.op) }
+{
+    has_phi || matches!(inst.op(), Op::Phi)
+}
+
+/// The types of the values of a function, and what is among its instructions.
+#[derive(Drop)]
+pub struct ValueTable {
+    pub types: Vec<Ty>,
+    /// One is a `getelementptr`.
+    pub has_step: bool,
+    /// One is a phi.
+    pub has_phi: bool,
+}
+
+/// The types of the values of a function that has these instructions, and what is among these.
+pub fn value_table(alloc: Global, func: &Func, insts: &[&Inst]) -> Result<ValueTable, Memory>
+    requires { seen_insts insts.now ≡ instructions_of func.now.content.blocks }
+    ensures types { IfOk result (λ values. values.types.items ≡ value_types func.now.content) }
+    ensures steps { IfOk result (λ values. values.has_step ≡ any_step (instructions_of func.now.content.blocks)) }
+    ensures phis { IfOk result (λ values. values.has_phi ≡ any_phi (instructions_of func.now.content.blocks)) }
+{
+    let room = func.args().len().saturating_add(insts.len());
+    let mut types = Vec::with_capacity(alloc, room)?;
     for arg in func.args() {
         types.push(arg.ty)?;
     }
+    let mut has_step = false;
+    let mut has_phi = false;
     for inst in insts {
         push_type(inst, &mut types)?;
+        has_step = or_step(has_step, inst);
+        has_phi = or_phi(has_phi, inst);
     }
-    Ok(types)
+    Ok(ValueTable {
+        types,
+        has_step,
+        has_phi,
+    })
 }
 
 fn push_giver<'a>(inst: &'a Inst, givers: &mut Vec<Option<&'a Inst>>) -> Result<(), Memory>
@@ -88,7 +135,8 @@ pub(crate) fn givers<'a>(
     requires { seen_insts insts.now ≡ instructions_of func.now.content.blocks }
     ensures { IfOk result (λ givers. map (option_map (λ inst. inst.now)) givers.items ≡ map inst_of (definitions_of func.now.content)) }
 {
-    let mut givers = Vec::new(alloc);
+    let room = func.args().len().saturating_add(insts.len());
+    let mut givers = Vec::with_capacity(alloc, room)?;
     for _arg in func.args() {
         givers.push(None)?;
     }

@@ -98,7 +98,7 @@ fn note_inst(
 fn no_users(alloc: Global, count: usize) -> Result<Vec<Vec<usize>>, AllocError>
     ensures { IfOk result (λ users. map (λ row. row.items) users.items ≡ replicate count []) }
 {
-    let mut users = Vec::new(alloc);
+    let mut users = Vec::with_capacity(alloc, count)?;
     for _ in 0..count {
         users.push(Vec::new(alloc))?;
     }

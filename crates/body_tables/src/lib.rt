@@ -4,5 +4,5 @@
 mod bodies;
 mod derivation;
 
-pub use bodies::{instructions, types};
+pub use bodies::{ValueTable, instructions, value_table};
 pub use derivation::{derived, lets_out};

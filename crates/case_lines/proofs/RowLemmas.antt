@@ -1,8 +1,8 @@
 -- Lists one after the other in one list.
-use Rattle.std.proofs.Common.{◌≡◌, ℕ, zero, suc, ◌<◌, ◌≤◌, ◌-◌, List, [], ◌∷◌, ◌++◌, length, get_or, drop, refl, ap, arith}
+use Rattle.std.proofs.Common.{◌≡◌, ℕ, zero, suc, ◌<◌, ◌≤◌, ◌-◌, List, [], ◌∷◌, ◌++◌, length, get_or, drop, refl, ap, subst, arith}
 use Rattle.std.specs.Prelude.{slice_get, unwrap_or}
 use Rattle.std.specs.List.{slice_range}
-use Rattle.std.proofs.lemmas.List.{length-append, length-drop, take_all, take-append-le, drop-append-le}
+use Rattle.std.proofs.lemmas.List.{append-nil, length-append, length-drop, take_all, take-append-le, drop-append-le}
 use Rattle.std.proofs.Math.Seq.{drop-append_seam}
 use Rattle.case_lines.specs.Rows.{rows_from, AreStops}
 
@@ -57,3 +57,9 @@ rows_push start (stop ∷ stops) lines row h =
     let first = range_in_front lines row start stop h.0 (stops_below stop stops (length lines) h.1) in
     let rest = rows_push stop stops lines row h.1 in
     cc
+
+-- a row of nothing
+pub rows_push_none : (stops lines : List ℕ) → AreStops 0 stops (length lines)
+    → rows_from 0 (stops ++ length lines ∷ []) lines ≡ rows_from 0 stops lines ++ [] ∷ []
+rows_push_none stops lines h =
+    subst (λ (ls : List ℕ). rows_from 0 (stops ++ length ls ∷ []) ls ≡ rows_from 0 stops lines ++ [] ∷ []) (append-nil lines) (rows_push 0 stops lines [] h)

@@ -1,4 +1,4 @@
-ghost use Rattle.std.specs.Prelude.{◌≡◌, ◌<◌, ◌≤◌, [], ◌∷◌, ◌++◌, length, slice_get, slice_index, slice_range, unwrap_or, IfOk};
+ghost use Rattle.std.specs.Prelude.{◌≡◌, ◌<◌, ◌≤◌, [], ◌∷◌, ◌++◌, length, slice_get, slice_index, slice_range, unwrap_or, IfOk, OnOk};
 ghost use Rattle.case_lines.specs.Rows.{rows_from, AreStops};
 
 use std::alloc::{AllocError, Global};
@@ -35,15 +35,32 @@ impl CaseLines {
         }
     }
 
-    /// These, and behind them the lines of the cases of one more instruction.
-    pub fn with_row(self, row: &[u32]) -> Result<CaseLines, AllocError>
-        ensures { IfOk result (λ cases. cases ≡ self ++ row.now ∷ []) }
+    /// Those of no instructions, with room for so many.
+    pub fn with_room(alloc: Global, room: usize) -> Result<CaseLines, AllocError>
+        ensures { IfOk result (λ cases. cases ≡ []) }
     {
-        let mut stops = self.stops;
-        let mut lines = self.lines;
-        lines.extend_from_slice(row)?;
-        stops.push(lines.len())?;
-        Ok(CaseLines { stops, lines })
+        Ok(CaseLines {
+            stops: Vec::with_capacity(alloc, room)?,
+            lines: Vec::new(alloc),
+        })
+    }
+
+    /// Adds the lines of the cases of one more instruction behind the others.
+    pub fn push(&mut self, row: &[u32]) -> Result<(), AllocError>
+        ensures { OnOk result (self.new ≡ self.old ++ row.now ∷ []) }
+    {
+        self.stops.reserve(1)?;
+        self.lines.extend_from_slice(row)?;
+        self.stops.push(self.lines.len()).unwrap();
+        Ok(())
+    }
+
+    /// Adds an instruction without cases behind the others.
+    pub fn push_none(&mut self) -> Result<(), AllocError>
+        ensures { OnOk result (self.new ≡ self.old ++ [] ∷ []) }
+    {
+        self.stops.push(self.lines.len())?;
+        Ok(())
     }
 
     /// How many instructions there are.

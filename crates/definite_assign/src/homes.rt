@@ -18,13 +18,22 @@ pub(crate) struct Home {
 pub(crate) fn homes(alloc: Global, func: &Func) -> Result<Vec<Home>, Memory>
     ensures { IfOk result (λ homes. AreHomes func.now.content (length (instructions_of func.now.content.blocks)) homes.items) }
 {
-    let mut homes = Vec::new(alloc);
+    let mut homes = Vec::with_capacity(alloc, room_for(func))?;
     let mut place = 0;
     for (number, block) in func.blocks().iter().enumerate() {
         add_block(func, number, place, &mut homes)?;
         place += block.insts().len();
     }
     Ok(homes)
+}
+
+// Room for the result of each instruction.
+fn room_for(func: &Func) -> usize {
+    let mut room: usize = 0;
+    for block in func.blocks() {
+        room = room.saturating_add(block.insts().len());
+    }
+    room
 }
 
 fn add_block(func: &Func, number: usize, start: usize, homes: &mut Vec<Home>) -> Result<(), Memory>

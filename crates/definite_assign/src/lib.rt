@@ -11,4 +11,4 @@ mod search;
 mod spans;
 mod uses;
 
-pub use faults::definite;
+pub use faults::{definite, definite_in};

@@ -183,7 +183,7 @@ impl HeadNames {
             ≡ map (λ one. one.name) (arguments_named line [] (map seen_argument arguments.now))) }
         ensures entry { IfOk result (λ names. names.entry.items ≡ decimal (count_numbered (map seen_argument arguments.now))) }
     {
-        let mut names = Vec::new(alloc);
+        let mut names = Vec::with_capacity(alloc, arguments.len())?;
         let mut numbered = 0;
         for argument in arguments {
             names.push(argument_name(alloc, argument, numbered)?)?;

@@ -7,9 +7,8 @@ ghost use Rattle.ir_cfg.specs.DefiniteUses.{UsesAreDefinite};
 ghost use Rattle.definite_assign.specs.Faults.{IsFirstLine};
 ghost use Rattle.ir_types.specs.FirstMissed.{IsFirstMissed};
 
-use definite_assign::definite;
+use definite_assign::definite_in;
 use ir_ast::{Func, Module};
-use ir_cfg::Cfg;
 use sp_ids::Memory;
 use std::alloc::Global;
 
@@ -18,8 +17,7 @@ fn first_missed_in(alloc: Global, func: &Func) -> Result<Option<u32>, Memory>
     ensures none { IfOk result (λ found. IfNone found (UsesAreDefinite func.now.content)) }
     ensures some { IfOk result (λ found. IfSome found (λ line. IsFirstLine func.now line)) }
 {
-    let cfg = Cfg::of(alloc, func)?;
-    definite(alloc, func, &cfg)
+    definite_in(alloc, func)
 }
 
 /// The line of the first instruction, in text order, with a use that some path from the entry of its function reaches

@@ -7,3 +7,4 @@ pub mod EdgeLemmas
 pub mod PhiLemmas
 pub mod Union
 pub mod GroupLemmas
+mod Escapes

@@ -1,6 +1,6 @@
 -- The entries of a phi, counted by block, and by their values.
 use Rattle.std.proofs.Common.{◌≡◌, ◌≢◌, ◌∙◌, ℕ, zero, suc, ◌+◌, ◌<◌, ◌≤◌, ◌⊎◌, inl, inr, Bool, true, false, not, cond, ◌&&◌, ◌||◌, List, [], ◌∷◌, ◌++◌, length, set, take, drop, refl, ap, sym, arith}
-use Rattle.std.specs.Prelude.{nat_eq, IsTrue, ◌↔◌, Some, slice_get, slice_index}
+use Rattle.std.specs.Prelude.{nat_eq, IsTrue, ◌↔◌, Option, Some, slice_get, slice_index}
 use Rattle.std.specs.List.{All, list_all}
 use Rattle.std.specs.List.Sorted.{IsNonDecreasing}
 use Rattle.std.specs.Str.{bytes_eq}
@@ -10,19 +10,25 @@ use Rattle.std.proofs.lemmas.List.{get_or-set_same, get_or-set_other, length-app
 use Rattle.std.proofs.lemmas.Grind.{flat_map-append}
 use Rattle.std.proofs.lemmas.Option.{slice_get_past, none-some, same_Some}
 use Rattle.std.proofs.lemmas.List.Sums.{sum_by-cons}
+use Rattle.std.proofs.lemmas.List.Folds.{list_any_at}
 use Rattle.std.proofs.lemmas.Slice.Eq.{bytes_eq-Decides}
 use Rattle.list_laws.proofs.Places.{cases_below, get_some}
-use Rattle.list_laws.proofs.Contents.{all_from_at}
+use Rattle.list_laws.proofs.Contents.{all_from_at, contains_get, joined_contains}
 use Rattle.sp_ids.specs.declared.ids.BlockId.{BlockId}
 use Rattle.ir_ast.specs.declared.ops.Operand.{Operand}
 use Rattle.ir_ast.specs.Insts.{Instruction}
 use Rattle.ir_ast.specs.Blocks.{BasicBlock}
-use Rattle.ir_ast.specs.Funcs.{Function, instructions_of}
+use Rattle.ir_ast.specs.Funcs.{Function, LinedFunction, instructions_of}
 use Rattle.ir_ast.specs.Edges.{count_of, edges}
 use Rattle.ir_ast.specs.Faults.PhiEdges.{is_phi, PhiIsRight}
-use Rattle.ir_verify.specs.FunctionFaults.{start_of}
+use Rattle.ir_lines.specs.declared.faults.Fault.{Fault}
+use Rattle.ir_lines.specs.Notes.{Notes}
+use Rattle.ir_lines.proofs.NoteLemmas.{notes-nothing}
+use Rattle.ir_verify.specs.Founds.{FoundIn}
+use Rattle.ir_verify.specs.FunctionFaults.{BlockFaultAt, start_of}
 use Rattle.ir_verify.specs.Phis.{times, numbers_of, Counts, Agree, AreRight, IsWrong}
 use Rattle.ir_verify.proofs.CountLemmas.{count_by-map, IsApart, same-or-apart}
+use Rattle.body_tables.specs.Bodies.{any_phi}
 use Rattle.body_tables.proofs.Values.{taken_more}
 
 -- ---- labels, counted
@@ -251,3 +257,17 @@ pub wrong-by : (wrong late : Bool) (into : List ℕ) (inst : Instruction) → la
     → wrong ≡ true
 wrong-by true late into inst early right w = refl
 wrong-by false late into inst early right w = absurd (w.1 (early, right refl))
+
+-- ---- without a phi
+
+pub no-phis : (func : LinedFunction) (kept : Option Fault) → any_phi (instructions_of func.content.blocks) ≡ false
+    → Notes kept kept (FoundIn (BlockFaultAt func) func.content.blocks)
+no-phis func kept none = notes-nothing kept (FoundIn (BlockFaultAt func) func.content.blocks) (λ line code found.
+    let inner = found.faulty in
+    let at = joined_contains (λ (block : BasicBlock). block.insts) func.content.blocks found.here inner.here
+    (contains_get func.content.blocks found.place found.here found.stands) (contains_get found.here.insts inner.place inner.here inner.stands) in
+    let phi = λ (inst : Instruction). is_phi inst.op in
+    let some : any_phi (instructions_of func.content.blocks) ≡ true
+    = list_any_at phi (instructions_of func.content.blocks) at.0 inner.here at.1 (ap phi at.2 ∙ inner.faulty.2.0) in
+    let bad : false ≡ true = sym none ∙ some in
+    cc)

@@ -5,6 +5,8 @@ ghost use Rattle.std.specs.List.{All};
 ghost use Rattle.std.specs.List.Sorted.{IsNonDecreasing};
 ghost use Rattle.ir_ast.specs.Edges.{targets, edges};
 ghost use Rattle.ir_ast.specs.Faults.PhiEdges.{is_phi, PhiIsRight};
+ghost use Rattle.ir_ast.specs.Funcs.{instructions_of};
+ghost use Rattle.body_tables.specs.Bodies.{any_phi};
 ghost use Rattle.ir_verify.specs.Founds.{FoundIn};
 ghost use Rattle.ir_verify.specs.FunctionFaults.{PhiFaultAt, BlockFaultAt};
 ghost use Rattle.ir_lines.specs.Notes.{Notes};
@@ -237,8 +239,8 @@ fn note_block(
     Ok(())
 }
 
-/// Notes the phis of a function that aren't right.
-pub(crate) fn note_phis(alloc: Global, func: &Func, first: &mut First) -> Result<(), Memory>
+// Notes the phis that aren't right of a function that has some.
+fn note_all(alloc: Global, func: &Func, first: &mut First) -> Result<(), Memory>
     ensures { OnOk result (Notes first.old.found first.new.found (FoundIn (BlockFaultAt func.now) func.now.content.blocks)) }
 {
     let into = sources(alloc, func)?;
@@ -263,4 +265,20 @@ pub(crate) fn note_phis(alloc: Global, func: &Func, first: &mut First) -> Result
         start += insts.len();
     }
     Ok(())
+}
+
+/// Notes the phis of a function that aren't right.
+pub(crate) fn note_phis(
+    alloc: Global,
+    func: &Func,
+    has_phi: bool,
+    first: &mut First,
+) -> Result<(), Memory>
+    requires { has_phi ≡ any_phi (instructions_of func.now.content.blocks) }
+    ensures { OnOk result (Notes first.old.found first.new.found (FoundIn (BlockFaultAt func.now) func.now.content.blocks)) }
+{
+    if !has_phi {
+        return Ok(());
+    }
+    note_all(alloc, func, first)
 }

@@ -4,7 +4,7 @@ ghost use Rattle.std.specs.Prelude.{◌≡◌, ◌<◌, ◌^◌, [], length, IfO
 ghost use Rattle.ir_ast.specs.Funcs.{instructions_of};
 ghost use Rattle.ir_ast.specs.Values.{value_types};
 ghost use Rattle.ir_verify.specs.Bodies.{insts_of};
-ghost use Rattle.body_tables.specs.Bodies.{seen_insts};
+ghost use Rattle.body_tables.specs.Bodies.{seen_insts, any_step};
 ghost use Rattle.ir_verify.specs.Founds.{FoundIn};
 ghost use Rattle.ir_verify.specs.FunctionFaults.{InstFault, LineFaultAt, EscapeAt, FormFault, FunctionFault, FunctionAt};
 ghost use Rattle.ir_resolve.specs.ModuleFaults.{HasModuleFault};
@@ -17,7 +17,7 @@ use crate::insts::{note_entry, orders_pointers};
 use crate::mains::has_main;
 use crate::phis::note_phis;
 use crate::types::is_typed;
-use body_tables::{derived, instructions, lets_out, types};
+use body_tables::{derived, instructions, lets_out, value_table};
 use case_lines::CaseLines;
 use ir_ast::{Form, Func, Inst, Module, Ty};
 use ir_lines::best::First;
@@ -86,12 +86,17 @@ fn note_escapes(
     alloc: Global,
     func: &Func,
     insts: &[&Inst],
+    has_step: bool,
     first: &mut First,
 ) -> Result<(), Memory>
     requires insts { seen_insts insts.now ≡ instructions_of func.now.content.blocks }
+    requires steps { has_step ≡ any_step (instructions_of func.now.content.blocks) }
     requires few { length (instructions_of func.now.content.blocks) < 2 ^ 30 }
     ensures { OnOk result (Notes first.old.found first.new.found (FoundIn (EscapeAt func.now) (insts_of func.now))) }
 {
+    if !has_step {
+        return Ok(());
+    }
     let marks = derived(alloc, func, insts)?;
     for (place, inst) in insts.iter().enumerate() {
         first.note_if(
@@ -110,15 +115,17 @@ fn note_by_form(
     func: &Func,
     insts: &[&Inst],
     types: &[Ty],
+    has_step: bool,
     first: &mut First,
 ) -> Result<(), Memory>
     requires insts { seen_insts insts.now ≡ instructions_of func.now.content.blocks }
     requires types { types.now ≡ value_types func.now.content }
+    requires steps { has_step ≡ any_step (instructions_of func.now.content.blocks) }
     requires few { length (instructions_of func.now.content.blocks) < 2 ^ 30 }
     ensures { OnOk result (Notes first.old.found first.new.found (FormFault form func.now)) }
 {
     match form {
-        Form::Source => note_escapes(alloc, func, insts, first),
+        Form::Source => note_escapes(alloc, func, insts, has_step, first),
         Form::Rewritten => {
             note_shapes(func, insts, types, first);
             Ok(())
@@ -139,11 +146,19 @@ fn note_function(
 {
     let insts = instructions(alloc, func)?;
     let insts = insts.as_slice();
-    let types = types(alloc, func, insts)?;
-    let types = types.as_slice();
+    let values = value_table(alloc, func, insts)?;
+    let types = values.types.as_slice();
     note_lines(alloc, module, cases, number, func, insts, types, first)?;
-    note_phis(alloc, func, first)?;
-    note_by_form(alloc, module.form(), func, insts, types, first)
+    note_phis(alloc, func, values.has_phi, first)?;
+    note_by_form(
+        alloc,
+        module.form(),
+        func,
+        insts,
+        types,
+        values.has_step,
+        first,
+    )
 }
 
 fn note_functions(

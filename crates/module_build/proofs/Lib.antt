@@ -6,6 +6,7 @@ pub mod BuiltLemmas
 pub mod Placing
 pub mod TypeLists
 pub mod Founds
+mod KeptLines
 pub mod LostLemmas
 pub mod LostNotes
 pub mod ScopeLemmas

@@ -75,28 +75,31 @@ fn named(alloc: Global, name: Option<&[u8]>) -> Result<Option<Name>, AllocError>
     }
 }
 
-// An instruction with these operands and labels.
-fn inst(
+// Adds an instruction with these operands and labels behind the others.
+fn push_inst(
     alloc: Global,
     name: Option<&[u8]>,
     op: Op,
     ty: Ty,
     operands: &[Operand],
     labels: &[BlockId],
-) -> Result<Option<Inst>, AllocError>
-    ensures { IfOk result (λ made. made ≡ Some (instruction (option_copied name.entry) op ty operands.now labels.now)) }
+    insts: &mut Vec<Inst>,
+) -> Result<(), AllocError>
+    ensures { OnOk result (insts.new.items ≡ insts.old.items ++ instruction (option_copied name.entry) op ty operands.now labels.now ∷ []) }
 {
     let name = named(alloc, name)?;
     let operands = SmallVec::from_slice(alloc, operands)?;
     let labels = SmallVec::from_slice(alloc, labels)?;
-    Ok(Some(Inst::of(name, op, ty, operands, labels, Vec::new(alloc))))
+    let none = Vec::new(alloc);
+    insts.push(Inst::of(name, op, ty, operands, labels, none))?;
+    Ok(())
 }
 
 // The types of what is passed.
 fn types_of(alloc: Global, passed: &[Passed]) -> Result<Types, AllocError>
     ensures { IfOk result (λ types. types ≡ map given_type (map seen_passed passed.now)) }
 {
-    let mut types = Vec::new(alloc);
+    let mut types = Vec::with_capacity(alloc, passed.len())?;
     for one in passed {
         types.push(type_of(passed_type(one)))?;
     }
@@ -111,10 +114,11 @@ fn binary(
     width: u32,
     left: &Value,
     right: &Value,
+    insts: &mut Vec<Inst>,
     lost: &mut Lost,
-) -> Result<Option<Inst>, AllocError>
-    ensures made { IfOk result (λ made. made ≡ Some (instruction (Some name.now) (binary_of op) (Ty.Int width)
-        (operand_in local.now.values (TypeWord.Int width) (seen_value left.now) ∷ operand_in local.now.values (TypeWord.Int width) (seen_value right.now) ∷ []) [])) }
+) -> Result<(), AllocError>
+    ensures insts { OnOk result (insts.new.items ≡ insts.old.items ++ (instruction (Some name.now) (binary_of op) (Ty.Int width)
+        (operand_in local.now.values (TypeWord.Int width) (seen_value left.now) ∷ operand_in local.now.values (TypeWord.Int width) (seen_value right.now) ∷ []) []) ∷ []) }
     ensures lost { lost.new ≡ after_uses local.now.values lost.old ((seen_value left.now, TypeWord.Int width) ∷ (seen_value right.now, TypeWord.Int width) ∷ []) }
 {
     let ty = TypeWord::Int(width);
@@ -122,13 +126,14 @@ fn binary(
         operand(local, ty, left, lost),
         operand(local, ty, right, lost),
     ];
-    inst(
+    push_inst(
         alloc,
         Some(name),
         binary_of(op),
         type_of(ty),
         &operands,
         &[],
+        insts,
     )
 }
 
@@ -140,10 +145,11 @@ fn compare(
     ty: TypeWord,
     left: &Value,
     right: &Value,
+    insts: &mut Vec<Inst>,
     lost: &mut Lost,
-) -> Result<Option<Inst>, AllocError>
-    ensures made { IfOk result (λ made. made ≡ Some (instruction (Some name.now) (Op.Icmp pred) (type_of ty)
-        (operand_in local.now.values ty (seen_value left.now) ∷ operand_in local.now.values ty (seen_value right.now) ∷ []) [])) }
+) -> Result<(), AllocError>
+    ensures insts { OnOk result (insts.new.items ≡ insts.old.items ++ (instruction (Some name.now) (Op.Icmp pred) (type_of ty)
+        (operand_in local.now.values ty (seen_value left.now) ∷ operand_in local.now.values ty (seen_value right.now) ∷ []) []) ∷ []) }
     ensures lost { lost.new ≡ after_uses local.now.values lost.old ((seen_value left.now, ty) ∷ (seen_value right.now, ty) ∷ []) }
 {
     let operands = [
@@ -151,7 +157,7 @@ fn compare(
         operand(local, ty, right, lost),
     ];
     let op = Op::Icmp(pred);
-    inst(alloc, Some(name), op, type_of(ty), &operands, &[])
+    push_inst(alloc, Some(name), op, type_of(ty), &operands, &[], insts)
 }
 
 fn convert(
@@ -162,21 +168,23 @@ fn convert(
     width: u32,
     value: &Value,
     to: u32,
+    insts: &mut Vec<Inst>,
     lost: &mut Lost,
-) -> Result<Option<Inst>, AllocError>
-    ensures made { IfOk result (λ made. made ≡ Some (instruction (Some name.now) (conversion_of op to) (Ty.Int width)
-        (operand_in local.now.values (TypeWord.Int width) (seen_value value.now) ∷ []) [])) }
+) -> Result<(), AllocError>
+    ensures insts { OnOk result (insts.new.items ≡ insts.old.items ++ (instruction (Some name.now) (conversion_of op to) (Ty.Int width)
+        (operand_in local.now.values (TypeWord.Int width) (seen_value value.now) ∷ []) []) ∷ []) }
     ensures lost { lost.new ≡ after_uses local.now.values lost.old ((seen_value value.now, TypeWord.Int width) ∷ []) }
 {
     let ty = TypeWord::Int(width);
     let operands = [operand(local, ty, value, lost)];
-    inst(
+    push_inst(
         alloc,
         Some(name),
         conversion_of(op, to),
         type_of(ty),
         &operands,
         &[],
+        insts,
     )
 }
 
@@ -189,11 +197,12 @@ fn select(
     left: &Value,
     right_ty: TypeWord,
     right: &Value,
+    insts: &mut Vec<Inst>,
     lost: &mut Lost,
-) -> Result<Option<Inst>, AllocError>
-    ensures made { IfOk result (λ made. made ≡ Some (instruction (Some name.now) Op.Select (type_of left_ty)
+) -> Result<(), AllocError>
+    ensures insts { OnOk result (insts.new.items ≡ insts.old.items ++ (instruction (Some name.now) Op.Select (type_of left_ty)
         (operand_in local.now.values (TypeWord.Int 1) (seen_value condition.now) ∷ operand_in local.now.values left_ty (seen_value left.now)
-        ∷ operand_in local.now.values right_ty (seen_value right.now) ∷ []) [])) }
+        ∷ operand_in local.now.values right_ty (seen_value right.now) ∷ []) []) ∷ []) }
     ensures lost { lost.new ≡ after_spelling (not (same_type left_ty right_ty)) (after_uses local.now.values lost.old
         ((seen_value condition.now, TypeWord.Int 1) ∷ (seen_value left.now, left_ty) ∷ (seen_value right.now, right_ty) ∷ [])) }
 {
@@ -203,13 +212,14 @@ fn select(
         operand(local, right_ty, right, lost),
     ];
     lost.misspelled = !same_type(left_ty, right_ty) || lost.misspelled;
-    inst(
+    push_inst(
         alloc,
         Some(name),
         Op::Select,
         type_of(left_ty),
         &operands,
         &[],
+        insts,
     )
 }
 
@@ -221,17 +231,18 @@ fn step(
     address: &Value,
     width: u32,
     index: &Value,
+    insts: &mut Vec<Inst>,
     lost: &mut Lost,
-) -> Result<Option<Inst>, AllocError>
-    ensures made { IfOk result (λ made. made ≡ Some (instruction (Some name.now) op Ty.Ptr
-        (operand_in local.now.values TypeWord.Managed (seen_value address.now) ∷ operand_in local.now.values (TypeWord.Int width) (seen_value index.now) ∷ []) [])) }
+) -> Result<(), AllocError>
+    ensures insts { OnOk result (insts.new.items ≡ insts.old.items ++ (instruction (Some name.now) op Ty.Ptr
+        (operand_in local.now.values TypeWord.Managed (seen_value address.now) ∷ operand_in local.now.values (TypeWord.Int width) (seen_value index.now) ∷ []) []) ∷ []) }
     ensures lost { lost.new ≡ after_uses local.now.values lost.old ((seen_value address.now, TypeWord.Managed) ∷ (seen_value index.now, TypeWord.Int width) ∷ []) }
 {
     let operands = [
         operand(local, TypeWord::Managed, address, lost),
         operand(local, TypeWord::Int(width), index, lost),
     ];
-    inst(alloc, Some(name), op, Ty::Ptr, &operands, &[])
+    push_inst(alloc, Some(name), op, Ty::Ptr, &operands, &[], insts)
 }
 
 fn scalar_step(
@@ -242,10 +253,11 @@ fn scalar_step(
     address: &Value,
     width: u32,
     index: &Value,
+    insts: &mut Vec<Inst>,
     lost: &mut Lost,
-) -> Result<Option<Inst>, AllocError>
-    ensures made { IfOk result (λ made. made ≡ Some (instruction (Some name.now) (Op.Gep (element_of element) width None) Ty.Ptr
-        (operand_in local.now.values TypeWord.Managed (seen_value address.now) ∷ operand_in local.now.values (TypeWord.Int width) (seen_value index.now) ∷ []) [])) }
+) -> Result<(), AllocError>
+    ensures insts { OnOk result (insts.new.items ≡ insts.old.items ++ (instruction (Some name.now) (Op.Gep (element_of element) width None) Ty.Ptr
+        (operand_in local.now.values TypeWord.Managed (seen_value address.now) ∷ operand_in local.now.values (TypeWord.Int width) (seen_value index.now) ∷ []) []) ∷ []) }
     ensures lost { lost.new ≡ after_uses local.now.values lost.old ((seen_value address.now, TypeWord.Managed) ∷ (seen_value index.now, TypeWord.Int width) ∷ []) }
 {
     let op = Op::Gep {
@@ -253,7 +265,7 @@ fn scalar_step(
         index_width: width,
         place: None,
     };
-    step(local, alloc, name, op, address, width, index, lost)
+    step(local, alloc, name, op, address, width, index, insts, lost)
 }
 
 fn load(
@@ -262,14 +274,23 @@ fn load(
     name: &[u8],
     ty: TypeWord,
     address: &Value,
+    insts: &mut Vec<Inst>,
     lost: &mut Lost,
-) -> Result<Option<Inst>, AllocError>
-    ensures made { IfOk result (λ made. made ≡ Some (instruction (Some name.now) Op.Load (type_of ty)
-        (operand_in local.now.values TypeWord.Managed (seen_value address.now) ∷ []) [])) }
+) -> Result<(), AllocError>
+    ensures insts { OnOk result (insts.new.items ≡ insts.old.items ++ (instruction (Some name.now) Op.Load (type_of ty)
+        (operand_in local.now.values TypeWord.Managed (seen_value address.now) ∷ []) []) ∷ []) }
     ensures lost { lost.new ≡ after_uses local.now.values lost.old ((seen_value address.now, TypeWord.Managed) ∷ []) }
 {
     let operands = [operand(local, TypeWord::Managed, address, lost)];
-    inst(alloc, Some(name), Op::Load, type_of(ty), &operands, &[])
+    push_inst(
+        alloc,
+        Some(name),
+        Op::Load,
+        type_of(ty),
+        &operands,
+        &[],
+        insts,
+    )
 }
 
 fn store(
@@ -278,17 +299,18 @@ fn store(
     ty: TypeWord,
     value: &Value,
     address: &Value,
+    insts: &mut Vec<Inst>,
     lost: &mut Lost,
-) -> Result<Option<Inst>, AllocError>
-    ensures made { IfOk result (λ made. made ≡ Some (instruction None Op.Store (type_of ty)
-        (operand_in local.now.values ty (seen_value value.now) ∷ operand_in local.now.values TypeWord.Managed (seen_value address.now) ∷ []) [])) }
+) -> Result<(), AllocError>
+    ensures insts { OnOk result (insts.new.items ≡ insts.old.items ++ (instruction None Op.Store (type_of ty)
+        (operand_in local.now.values ty (seen_value value.now) ∷ operand_in local.now.values TypeWord.Managed (seen_value address.now) ∷ []) []) ∷ []) }
     ensures lost { lost.new ≡ after_uses local.now.values lost.old ((seen_value value.now, ty) ∷ (seen_value address.now, TypeWord.Managed) ∷ []) }
 {
     let operands = [
         operand(local, ty, value, lost),
         operand(local, TypeWord::Managed, address, lost),
     ];
-    inst(alloc, None, Op::Store, type_of(ty), &operands, &[])
+    push_inst(alloc, None, Op::Store, type_of(ty), &operands, &[], insts)
 }
 
 fn phi(
@@ -297,10 +319,11 @@ fn phi(
     name: &[u8],
     ty: TypeWord,
     entries: &[Entry],
+    insts: &mut Vec<Inst>,
     lost: &mut Lost,
-) -> Result<Option<Inst>, AllocError>
-    ensures made { IfOk result (λ made. made ≡ Some (instruction (Some name.now) Op.Phi (type_of ty)
-        (map (entry_operand local.now.values ty) (map seen_entry entries.now)) (map (entry_label local.now.blocks) (map seen_entry entries.now)))) }
+) -> Result<(), AllocError>
+    ensures insts { OnOk result (insts.new.items ≡ insts.old.items ++ (instruction (Some name.now) Op.Phi (type_of ty)
+        (map (entry_operand local.now.values ty) (map seen_entry entries.now)) (map (entry_label local.now.blocks) (map seen_entry entries.now))) ∷ []) }
     ensures lost { OnOk result (lost.new ≡ after_named local.now.blocks (map (λ entry. entry.1) (map seen_entry entries.now))
         (after_uses local.now.values lost.old (map (entry_use ty) (map seen_entry entries.now)))) }
 {
@@ -314,20 +337,22 @@ fn phi(
     add_unknown(lost_labels.unknown, lost);
     let name = owned(alloc, name)?;
     let none = Vec::new(alloc);
-    Ok(Some(Inst::of(Some(name), Op::Phi, type_of(ty), operands, labels, none)))
+    insts.push(Inst::of(Some(name), Op::Phi, type_of(ty), operands, labels, none))?;
+    Ok(())
 }
 
 fn jump(
     local: &Local,
     alloc: Global,
     to: &[u8],
+    insts: &mut Vec<Inst>,
     lost: &mut Lost,
-) -> Result<Option<Inst>, AllocError>
-    ensures made { IfOk result (λ made. made ≡ Some (instruction None Op.Br Ty.Void [] (label_in local.now.blocks to.now ∷ []))) }
+) -> Result<(), AllocError>
+    ensures insts { OnOk result (insts.new.items ≡ insts.old.items ++ (instruction None Op.Br Ty.Void [] (label_in local.now.blocks to.now ∷ [])) ∷ []) }
     ensures lost { lost.new ≡ after_named local.now.blocks (to.now ∷ []) lost.old }
 {
     let labels = [label(local, to, lost)];
-    inst(alloc, None, Op::Br, Ty::Void, &[], &labels)
+    push_inst(alloc, None, Op::Br, Ty::Void, &[], &labels, insts)
 }
 
 fn branch(
@@ -336,17 +361,26 @@ fn branch(
     condition: &Value,
     on_true: &[u8],
     on_false: &[u8],
+    insts: &mut Vec<Inst>,
     lost: &mut Lost,
-) -> Result<Option<Inst>, AllocError>
-    ensures made { IfOk result (λ made. made ≡ Some (instruction None Op.CondBr (Ty.Int 1)
+) -> Result<(), AllocError>
+    ensures insts { OnOk result (insts.new.items ≡ insts.old.items ++ (instruction None Op.CondBr (Ty.Int 1)
         (operand_in local.now.values (TypeWord.Int 1) (seen_value condition.now) ∷ [])
-        (label_in local.now.blocks on_true.now ∷ label_in local.now.blocks on_false.now ∷ []))) }
+        (label_in local.now.blocks on_true.now ∷ label_in local.now.blocks on_false.now ∷ [])) ∷ []) }
     ensures lost { lost.new ≡ after_named local.now.blocks (on_true.now ∷ on_false.now ∷ [])
         (after_uses local.now.values lost.old ((seen_value condition.now, TypeWord.Int 1) ∷ [])) }
 {
     let operands = [operand(local, TypeWord::Int(1), condition, lost)];
     let labels = [label(local, on_true, lost), label(local, on_false, lost)];
-    inst(alloc, None, Op::CondBr, Ty::Int(1), &operands, &labels)
+    push_inst(
+        alloc,
+        None,
+        Op::CondBr,
+        Ty::Int(1),
+        &operands,
+        &labels,
+        insts,
+    )
 }
 
 fn ret(
@@ -354,13 +388,14 @@ fn ret(
     alloc: Global,
     ty: TypeWord,
     value: &Value,
+    insts: &mut Vec<Inst>,
     lost: &mut Lost,
-) -> Result<Option<Inst>, AllocError>
-    ensures made { IfOk result (λ made. made ≡ Some (instruction None Op.Ret (type_of ty) (operand_in local.now.values ty (seen_value value.now) ∷ []) [])) }
+) -> Result<(), AllocError>
+    ensures insts { OnOk result (insts.new.items ≡ insts.old.items ++ (instruction None Op.Ret (type_of ty) (operand_in local.now.values ty (seen_value value.now) ∷ []) []) ∷ []) }
     ensures lost { lost.new ≡ after_uses local.now.values lost.old ((seen_value value.now, ty) ∷ []) }
 {
     let operands = [operand(local, ty, value, lost)];
-    inst(alloc, None, Op::Ret, type_of(ty), &operands, &[])
+    push_inst(alloc, None, Op::Ret, type_of(ty), &operands, &[], insts)
 }
 
 fn gc_result(
@@ -369,20 +404,22 @@ fn gc_result(
     name: &[u8],
     answer: TypeWord,
     token: &[u8],
+    insts: &mut Vec<Inst>,
     lost: &mut Lost,
-) -> Result<Option<Inst>, AllocError>
-    ensures made { IfOk result (λ made. made ≡ Some (instruction (Some name.now) Op.GcResult (type_of answer)
-        (operand_in local.now.values token_type (values.local token.now) ∷ []) [])) }
+) -> Result<(), AllocError>
+    ensures insts { OnOk result (insts.new.items ≡ insts.old.items ++ (instruction (Some name.now) Op.GcResult (type_of answer)
+        (operand_in local.now.values token_type (values.local token.now) ∷ []) []) ∷ []) }
     ensures lost { lost.new ≡ after_uses local.now.values lost.old (token_use token.now ∷ []) }
 {
     let operands = [operand(local, TOKEN, &Value::Local(token), lost)];
-    inst(
+    push_inst(
         alloc,
         Some(name),
         Op::GcResult,
         type_of(answer),
         &operands,
         &[],
+        insts,
     )
 }
 
@@ -393,12 +430,13 @@ fn gc_relocate(
     token: &[u8],
     base: Literal,
     derived: Literal,
+    insts: &mut Vec<Inst>,
     lost: &mut Lost,
-) -> Result<Option<Inst>, AllocError>
-    ensures made { IfOk result (λ made. made ≡ Some (instruction (Some name.now) Op.GcRelocate Ty.Ptr
+) -> Result<(), AllocError>
+    ensures insts { OnOk result (insts.new.items ≡ insts.old.items ++ (instruction (Some name.now) Op.GcRelocate Ty.Ptr
         (operand_in local.now.values token_type (values.local token.now)
         ∷ operand_in local.now.values (TypeWord.Int 32) (values.number base)
-        ∷ operand_in local.now.values (TypeWord.Int 32) (values.number derived) ∷ []) [])) }
+        ∷ operand_in local.now.values (TypeWord.Int 32) (values.number derived) ∷ []) []) ∷ []) }
     ensures lost { lost.new ≡ after_uses local.now.values lost.old (token_use token.now ∷ index_use base ∷ index_use derived ∷ []) }
 {
     let index = TypeWord::Int(32);
@@ -407,7 +445,15 @@ fn gc_relocate(
         operand(local, index, &Value::Number(base), lost),
         operand(local, index, &Value::Number(derived), lost),
     ];
-    inst(alloc, Some(name), Op::GcRelocate, Ty::Ptr, &operands, &[])
+    push_inst(
+        alloc,
+        Some(name),
+        Op::GcRelocate,
+        Ty::Ptr,
+        &operands,
+        &[],
+        insts,
+    )
 }
 
 // A `switch` with the cases that stand behind it. What a case loses is found at its own line.
@@ -418,11 +464,12 @@ fn switch(
     value: &Value,
     default: &[u8],
     behind: &[NumberedReading],
+    insts: &mut Vec<Inst>,
     lost: &mut Lost,
-) -> Result<Option<Inst>, AllocError>
-    ensures made { IfOk result (λ made. made ≡ Some (instruction None Op.Switch (Ty.Int width)
+) -> Result<(), AllocError>
+    ensures insts { OnOk result (insts.new.items ≡ insts.old.items ++ (instruction None Op.Switch (Ty.Int width)
         (operand_in local.now.values (TypeWord.Int width) (seen_value value.now) ∷ case_values local.now.values width (seen_lines behind.now))
-        (label_in local.now.blocks default.now ∷ case_labels local.now.blocks (seen_lines behind.now)))) }
+        (label_in local.now.blocks default.now ∷ case_labels local.now.blocks (seen_lines behind.now))) ∷ []) }
     ensures lost { OnOk result (lost.new ≡ after_named local.now.blocks (default.now ∷ [])
         (after_uses local.now.values lost.old ((seen_value value.now, TypeWord.Int width) ∷ []))) }
 {
@@ -439,7 +486,8 @@ fn switch(
         labels.push(local.label(label))?;
     }
     let none = Vec::new(alloc);
-    Ok(Some(Inst::of(None, Op::Switch, type_of(ty), operands, labels, none)))
+    insts.push(Inst::of(None, Op::Switch, type_of(ty), operands, labels, none))?;
+    Ok(())
 }
 
 // A case of a `switch`, which is no instruction by itself.
@@ -508,11 +556,12 @@ impl Scope<'_, '_, '_, '_> {
         answer: TypeWord,
         callee: &[u8],
         passed: &[Passed],
+        insts: &mut Vec<Inst>,
         lost: &mut Lost,
-    ) -> Result<Option<Inst>, AllocError>
-        ensures made { IfOk result (λ made. made ≡ Some (instruction (option_copied name.entry)
+    ) -> Result<(), AllocError>
+        ensures insts { OnOk result (insts.new.items ≡ insts.old.items ++ (instruction (option_copied name.entry)
             (Op.Call (callee_of (known_in self.now) callee.now) (map given_type (map seen_passed passed.now))) (type_of answer)
-            (map (passed_operand (known_in self.now)) (map seen_passed passed.now)) [])) }
+            (map (passed_operand (known_in self.now)) (map seen_passed passed.now)) []) ∷ []) }
         ensures lost { OnOk result (lost.new ≡ after_spelling (not (call_fits self.now.form (tables_in self.now) answer callee.now (map seen_passed passed.now)))
             (after_named self.now.top.now.heads (callee.now ∷ filter_map passed_function (map seen_passed passed.now))
             (after_uses self.now.local.now.values lost.old (filter_map passed_value (map seen_passed passed.now))))) }
@@ -526,7 +575,8 @@ impl Scope<'_, '_, '_, '_> {
         let name = named(alloc, name)?;
         let labels = SmallVec::new(alloc);
         let none = Vec::new(alloc);
-        Ok(Some(Inst::of(name, op, type_of(answer), operands, labels, none)))
+        insts.push(Inst::of(name, op, type_of(answer), operands, labels, none))?;
+        Ok(())
     }
 
     // The instruction of a conversion from or to pointers, which no module has: a call that passes nothing keeps its
@@ -538,9 +588,10 @@ impl Scope<'_, '_, '_, '_> {
         from: TypeWord,
         value: &Value,
         to: TypeWord,
+        insts: &mut Vec<Inst>,
         lost: &mut Lost,
-    ) -> Result<Option<Inst>, AllocError>
-        ensures made { IfOk result (λ made. made ≡ Some (instruction (Some name.now) (Op.Call (callee_of (known_in self.now) []) []) (type_of to) [] [])) }
+    ) -> Result<(), AllocError>
+        ensures insts { OnOk result (insts.new.items ≡ insts.old.items ++ (instruction (Some name.now) (Op.Call (callee_of (known_in self.now) []) []) (type_of to) [] []) ∷ []) }
         ensures lost { lost.new ≡ after_spelling (not (fits_in self.now.local.now.values self.now.local.now.types.items from (seen_value value.now)))
             (after_uses self.now.local.now.values lost.old ((seen_value value.now, from) ∷ [])) }
     {
@@ -550,7 +601,7 @@ impl Scope<'_, '_, '_, '_> {
             callee: self.callee(b""),
             types: Types::of(Vec::new(alloc)),
         };
-        inst(alloc, Some(name), op, type_of(to), &[], &[])
+        push_inst(alloc, Some(name), op, type_of(to), &[], &[], insts)
     }
 
     fn layout_step(
@@ -562,11 +613,12 @@ impl Scope<'_, '_, '_, '_> {
         address: &Value,
         width: u32,
         index: &Value,
+        insts: &mut Vec<Inst>,
         lost: &mut Lost,
-    ) -> Result<Option<Inst>, AllocError>
-        ensures made { IfOk result (λ made. made ≡ Some (instruction (Some name.now)
+    ) -> Result<(), AllocError>
+        ensures insts { OnOk result (insts.new.items ≡ insts.old.items ++ (instruction (Some name.now)
             (Op.Gep (Elem.Layout (number_in self.now.top.now.layouts layout.now)) width (option_map place_of place)) Ty.Ptr
-            (operand_in self.now.local.now.values TypeWord.Managed (seen_value address.now) ∷ operand_in self.now.local.now.values (TypeWord.Int width) (seen_value index.now) ∷ []) [])) }
+            (operand_in self.now.local.now.values TypeWord.Managed (seen_value address.now) ∷ operand_in self.now.local.now.values (TypeWord.Int width) (seen_value index.now) ∷ []) []) ∷ []) }
         ensures lost { lost.new ≡ after_spelling (is_below_zero place) (after_named self.now.top.now.layouts (layout.now ∷ [])
             (after_uses self.now.local.now.values lost.old ((seen_value address.now, TypeWord.Managed) ∷ (seen_value index.now, TypeWord.Int width) ∷ []))) }
     {
@@ -580,7 +632,7 @@ impl Scope<'_, '_, '_, '_> {
             place: place_if_any(place),
         };
         lost.misspelled = is_below_zero(place) || lost.misspelled;
-        inst(alloc, Some(name), op, Ty::Ptr, &operands, &[])
+        push_inst(alloc, Some(name), op, Ty::Ptr, &operands, &[], insts)
     }
 
     // The operands of what is passed.
@@ -627,10 +679,11 @@ impl Scope<'_, '_, '_, '_> {
         name: &[u8],
         call: &StatepointCall,
         operands: Operands,
-    ) -> Result<Option<Inst>, AllocError>
-        ensures { IfOk result (λ made. made ≡ Some (instruction (Some name.now)
+        insts: &mut Vec<Inst>,
+    ) -> Result<(), AllocError>
+        ensures insts { OnOk result (insts.new.items ≡ insts.old.items ++ (instruction (Some name.now)
             (Op.Statepoint (wrapped 64 (seen_guarded call.now).id) (callee_of (known_in self.now) (seen_guarded call.now).callee)
-            (map given_type (seen_guarded call.now).passed)) (type_of (seen_guarded call.now).signature.answer) operands.items [])) }
+            (map given_type (seen_guarded call.now).passed)) (type_of (seen_guarded call.now).signature.answer) operands.items []) ∷ []) }
     {
         let op = Op::Statepoint {
             id: wrapped(64, call.id),
@@ -641,7 +694,8 @@ impl Scope<'_, '_, '_, '_> {
         let name = owned(alloc, name)?;
         let labels = SmallVec::new(alloc);
         let none = Vec::new(alloc);
-        Ok(Some(Inst::of(Some(name), op, ty, operands, labels, none)))
+        insts.push(Inst::of(Some(name), op, ty, operands, labels, none))?;
+        Ok(())
     }
 
     fn statepoint(
@@ -650,28 +704,31 @@ impl Scope<'_, '_, '_, '_> {
         name: &[u8],
         call: &StatepointCall,
         live: &[Value],
+        insts: &mut Vec<Inst>,
         lost: &mut Lost,
-    ) -> Result<Option<Inst>, AllocError>
-        ensures made { IfOk result (λ made. made
-            ≡ instruction_said (known_in self.now) [] (statepoint name.now (seen_guarded call.now) (map seen_value live.now))) }
+    ) -> Result<(), AllocError>
+        ensures insts { OnOk result (insts.new.items ≡ insts.old.items
+            ++ option_to_list (instruction_said (known_in self.now) [] (statepoint name.now (seen_guarded call.now) (map seen_value live.now)))) }
         ensures lost { OnOk result (lost.new
             ≡ after_line self.now.form (tables_in self.now) lost.old (statepoint name.now (seen_guarded call.now) (map seen_value live.now))) }
     {
         let operands = self.statepoint_operands(alloc, call.passed.as_slice(), live, lost)?;
         self.note_statepoint(call, lost);
-        self.guarded(alloc, name, call, operands)
+        self.guarded(alloc, name, call, operands, insts)
     }
 
-    /// The instruction of a line, where it is one; a `switch` has the cases that stand behind it. Adds what the line
-    /// loses.
+    /// Adds the instruction of a line behind the others, where it is one; a `switch` has the cases that stand behind it.
+    /// Adds what the line loses.
     pub(crate) fn instruction(
         &self,
         alloc: Global,
         reading: &Reading,
         behind: &[NumberedReading],
+        insts: &mut Vec<Inst>,
         lost: &mut Lost,
-    ) -> Result<Option<Inst>, AllocError>
-        ensures made { IfOk result (λ made. made ≡ instruction_said (known_in self.now) (seen_lines behind.now) (said reading.now)) }
+    ) -> Result<(), AllocError>
+        ensures insts { OnOk result (insts.new.items ≡ insts.old.items
+            ++ option_to_list (instruction_said (known_in self.now) (seen_lines behind.now) (said reading.now))) }
         ensures lost { OnOk result (lost.new ≡ after_line self.now.form (tables_in self.now) lost.old (said reading.now)) }
     {
         let local = self.local;
@@ -682,21 +739,21 @@ impl Scope<'_, '_, '_, '_> {
                 width,
                 left,
                 right,
-            } => binary(local, alloc, result, *op, *width, left, right, lost),
+            } => binary(local, alloc, result, *op, *width, left, right, insts, lost),
             Reading::Compare {
                 result,
                 pred,
                 ty,
                 left,
                 right,
-            } => compare(local, alloc, result, *pred, *ty, left, right, lost),
+            } => compare(local, alloc, result, *pred, *ty, left, right, insts, lost),
             Reading::Convert {
                 result,
                 op,
                 width,
                 value,
                 to,
-            } => convert(local, alloc, result, *op, *width, value, *to, lost),
+            } => convert(local, alloc, result, *op, *width, value, *to, insts, lost),
             Reading::Select {
                 result,
                 condition,
@@ -705,20 +762,22 @@ impl Scope<'_, '_, '_, '_> {
                 right_ty,
                 right,
             } => select(
-                local, alloc, result, condition, *left_ty, left, *right_ty, right, lost,
+                local, alloc, result, condition, *left_ty, left, *right_ty, right, insts, lost,
             ),
             Reading::Phi {
                 result,
                 ty,
                 entries,
-            } => phi(local, alloc, result, *ty, entries.as_slice(), lost),
+            } => phi(local, alloc, result, *ty, entries.as_slice(), insts, lost),
             Reading::ScalarElement {
                 result,
                 element,
                 address,
                 width,
                 index,
-            } => scalar_step(local, alloc, result, *element, address, *width, index, lost),
+            } => scalar_step(
+                local, alloc, result, *element, address, *width, index, insts, lost,
+            ),
             Reading::LayoutElement {
                 result,
                 layout,
@@ -726,13 +785,17 @@ impl Scope<'_, '_, '_, '_> {
                 width,
                 index,
                 place,
-            } => self.layout_step(alloc, result, layout, *place, address, *width, index, lost),
+            } => self.layout_step(
+                alloc, result, layout, *place, address, *width, index, insts, lost,
+            ),
             Reading::Load {
                 result,
                 ty,
                 address,
-            } => load(local, alloc, result, *ty, address, lost),
-            Reading::Store { ty, value, address } => store(local, alloc, *ty, value, address, lost),
+            } => load(local, alloc, result, *ty, address, insts, lost),
+            Reading::Store { ty, value, address } => store(
+                local, alloc, *ty, value, address, insts, lost,
+            ),
             Reading::ValueCall {
                 result,
                 answer,
@@ -744,55 +807,72 @@ impl Scope<'_, '_, '_, '_> {
                 *answer,
                 callee,
                 passed.as_slice(),
+                insts,
                 lost,
             ),
             Reading::VoidCall { callee, passed } => {
-                self.call(alloc, None, TypeWord::Void, callee, passed.as_slice(), lost)
+                self.call(
+                    alloc,
+                    None,
+                    TypeWord::Void,
+                    callee,
+                    passed.as_slice(),
+                    insts,
+                    lost,
+                )
             }
-            Reading::Jump { label } => jump(local, alloc, label, lost),
+            Reading::Jump { label } => jump(local, alloc, label, insts, lost),
             Reading::Branch {
                 condition,
                 on_true,
                 on_false,
-            } => branch(local, alloc, condition, on_true, on_false, lost),
+            } => branch(local, alloc, condition, on_true, on_false, insts, lost),
             Reading::Switch {
                 width,
                 value,
                 default,
-            } => switch(local, alloc, *width, value, default, behind, lost),
-            Reading::ReturnVoid => inst(alloc, None, Op::Ret, Ty::Void, &[], &[]),
-            Reading::Return { ty, value } => ret(local, alloc, *ty, value, lost),
-            Reading::Unreachable => inst(alloc, None, Op::Unreachable, Ty::Void, &[], &[]),
+            } => switch(local, alloc, *width, value, default, behind, insts, lost),
+            Reading::ReturnVoid => push_inst(alloc, None, Op::Ret, Ty::Void, &[], &[], insts),
+            Reading::Return { ty, value } => ret(local, alloc, *ty, value, insts, lost),
+            Reading::Unreachable => push_inst(
+                alloc,
+                None,
+                Op::Unreachable,
+                Ty::Void,
+                &[],
+                &[],
+                insts,
+            ),
             Reading::Statepoint { result, call, live } => {
-                self.statepoint(alloc, result, call, live.as_slice(), lost)
+                self.statepoint(alloc, result, call, live.as_slice(), insts, lost)
             }
             Reading::GcResult {
                 result,
                 answer,
                 token,
-            } => gc_result(local, alloc, result, *answer, token, lost),
+            } => gc_result(local, alloc, result, *answer, token, insts, lost),
             Reading::GcRelocate {
                 result,
                 token,
                 base,
                 derived,
-            } => gc_relocate(local, alloc, result, token, *base, *derived, lost),
+            } => gc_relocate(local, alloc, result, token, *base, *derived, insts, lost),
             Reading::Cast {
                 result,
                 from,
                 value,
                 to,
                 ..
-            } => self.cast(alloc, result, *from, value, *to, lost),
+            } => self.cast(alloc, result, *from, value, *to, insts, lost),
             Reading::Case {
                 width,
                 value,
                 label,
             } => {
                 case(local, *width, value, label, lost);
-                Ok(None)
+                Ok(())
             }
-            _ => Ok(None),
+            _ => Ok(()),
         }
     }
 }

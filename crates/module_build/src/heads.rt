@@ -22,7 +22,7 @@ pub fn arguments_of(
     requires { map (λ n. n.items) names.now ≡ map (λ one. one.name) (arguments_named line [] (map seen_argument arguments.now)) }
     ensures { IfOk result (λ args. args.items ≡ map argument_of (arguments_named line [] (map seen_argument arguments.now))) }
 {
-    let mut args = Vec::new(alloc);
+    let mut args = Vec::with_capacity(alloc, arguments.len())?;
     for (i, argument) in arguments.iter().enumerate() {
         let name = owned(alloc, names[i].as_slice())?;
         args.push(Arg {

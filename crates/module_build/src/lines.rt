@@ -1,10 +1,11 @@
 //! A line of a function resolved: its instruction, and the first of what it loses.
 
-ghost use Rattle.std.specs.Prelude.{◌≡◌, ◌+◌, ◌<◌, ◌++◌, length, drop, map, IfOk, OnOk};
+ghost use Rattle.std.specs.Prelude.{◌≡◌, ◌+◌, ◌<◌, [], ◌∷◌, ◌++◌, length, drop, map, OnOk, if◌then◌else◌};
 ghost use Rattle.ir_lines.specs.Faults.GroupShape.{is_count};
 ghost use Rattle.ir_lines.specs.Faults.PointerCast.{is_cast};
 ghost use Rattle.ir_lines.specs.Modules.{instruction_said, with_line};
 ghost use Rattle.ir_lines.specs.Notes.{Notes};
+ghost use Rattle.ir_lines.specs.ReadLines.{is_instruction};
 ghost use Rattle.ir_lines.specs.Views.{seen_guarded, said, seen_lines};
 ghost use Rattle.module_build.specs.Known.{known_in};
 ghost use Rattle.module_build.specs.Lost.{tables_in, spells_wrong_count, miscounts_in, LostBy, LostIn};
@@ -87,24 +88,57 @@ fn tested(form: Form, reading: &Reading, lost: Lost) -> Tests
     }
 }
 
-/// The instruction of a line, where it is one; a `switch` has the cases that stand behind it. Notes what the line
-/// loses: a name that there isn't, a number outside its type, a call of other types, a conversion from or to pointers,
-/// a count.
+/// Whether it stands for an instruction.
+pub fn is_instruction(reading: &Reading) -> bool
+    ensures { result ≡ is_instruction (said reading.now) }
+{
+    !matches!(
+        reading,
+        Reading::Layout { .. }
+            | Reading::Declare { .. }
+            | Reading::Define { .. }
+            | Reading::Close
+            | Reading::Label { .. }
+            | Reading::Case { .. }
+            | Reading::SwitchEnd
+    )
+}
+
+// Adds a line behind the others, where it stands for an instruction.
+fn keep_number(line: &NumberedReading, numbers: &mut Vec<u32>) -> Result<(), AllocError>
+    ensures { OnOk result (numbers.new.items
+        ≡ numbers.old.items ++ (if is_instruction (said line.now.reading) then line.now.line ∷ [] else [])) }
+{
+    if is_instruction(&line.reading) {
+        numbers.push(line.line)?;
+    }
+    Ok(())
+}
+
+/// Adds the instruction of a line and its number behind the others, where it is one; a `switch` has the cases that stand
+/// behind it. Notes what the line loses: a name that there isn't, a number outside its type, a call of other types, a
+/// conversion from or to pointers, a count.
 pub fn resolve_line(
     scope: &Scope,
     alloc: Global,
     line: &NumberedReading,
     behind: &[NumberedReading],
+    insts: &mut Vec<Inst>,
+    numbers: &mut Vec<u32>,
     first: &mut First,
-) -> Result<Option<Inst>, AllocError>
-    ensures made { IfOk result (λ made. made ≡ instruction_said (known_in scope.now) (seen_lines behind.now) (said line.now.reading)) }
+) -> Result<(), AllocError>
+    ensures insts { OnOk result (insts.new.items ≡ insts.old.items ++ map (λ one. one.1)
+        (with_line line.now.line (instruction_said (known_in scope.now) (seen_lines behind.now) (said line.now.reading)))) }
+    ensures numbers { OnOk result (numbers.new.items ≡ numbers.old.items ++ map (λ one. one.0)
+        (with_line line.now.line (instruction_said (known_in scope.now) (seen_lines behind.now) (said line.now.reading)))) }
     ensures noted { OnOk result (Notes first.old.found first.new.found
         (λ l code. (l ≡ line.now.line) × LostIn scope.now.form (tables_in scope.now) (said line.now.reading) code)) }
 {
     let mut lost = nothing_lost();
-    let made = scope.instruction(alloc, &line.reading, behind, &mut lost)?;
+    scope.instruction(alloc, &line.reading, behind, insts, &mut lost)?;
+    keep_number(line, numbers)?;
     note_tests(tested(scope.form, &line.reading, lost), line.line, first);
-    Ok(made)
+    Ok(())
 }
 
 /// The lines behind one.
@@ -113,24 +147,4 @@ pub fn behind<'t, 'a>(lines: &'t [NumberedReading<'a>], i: usize) -> &'t [Number
     ensures { result.now ≡ drop (i + 1) lines.now }
 {
     &lines[i + 1..]
-}
-
-/// Adds an instruction and its line behind the others, where there is one.
-pub fn keep(
-    insts: &mut Vec<Inst>,
-    numbers: &mut Vec<u32>,
-    line: u32,
-    made: Option<Inst>,
-) -> Result<(), AllocError>
-    ensures insts { OnOk result (insts.new.items ≡ insts.old.items ++ map (λ one. one.1) (with_line line made)) }
-    ensures numbers { OnOk result (numbers.new.items ≡ numbers.old.items ++ map (λ one. one.0) (with_line line made)) }
-{
-    match made {
-        Some(inst) => {
-            insts.push(inst)?;
-            numbers.push(line)?;
-            Ok(())
-        }
-        None => Ok(()),
-    }
 }

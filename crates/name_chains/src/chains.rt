@@ -60,10 +60,8 @@ impl Chains {
         for _ in 0..room {
             last.push(None)?;
         }
-        Ok(Chains {
-            last,
-            before: Vec::new(alloc),
-        })
+        let before = Vec::with_capacity(alloc, room)?;
+        Ok(Chains { last, before })
     }
 
     /// The place of the first of these names that is this one.

@@ -12,24 +12,8 @@ ghost use Rattle.text_resolve.specs.Rows.{row_said, rows_of};
 use case_lines::CaseLines;
 use ir_lines::best::First;
 use ir_reader::{NumberedReading, Reading};
-use module_build::lines::behind;
+use module_build::lines::{behind, is_instruction};
 use std::alloc::{AllocError, Global};
-
-// Whether it stands for an instruction.
-fn is_instruction(reading: &Reading) -> bool
-    ensures { result ≡ is_instruction (said reading.now) }
-{
-    !matches!(
-        reading,
-        Reading::Layout { .. }
-            | Reading::Declare { .. }
-            | Reading::Define { .. }
-            | Reading::Close
-            | Reading::Label { .. }
-            | Reading::Case { .. }
-            | Reading::SwitchEnd
-    )
-}
 
 fn is_other(width: u32, other: u32) -> bool
     ensures { IsTrue result ↔ (other ≢ width) }
@@ -61,31 +45,30 @@ fn note_cases(
     Ok(())
 }
 
-// Adds the lines of the cases of a line that is a `switch`, and notes those of another width.
+// Adds the lines of the cases of a `switch` of this width, and notes those of another width.
 fn note_switch(
-    reading: &Reading,
+    alloc: Global,
+    width: u32,
     behind: &[NumberedReading],
-    row: &mut Vec<u32>,
+    cases: &mut CaseLines,
     first: &mut First,
 ) -> Result<(), AllocError>
-    ensures row { OnOk result (row.new.items ≡ row.old.items ++ case_lines (seen_lines behind.now) (said reading.now)) }
-    ensures noted { OnOk result (Notes first.old.found first.new.found (WidthsBehind (said reading.now) (seen_lines behind.now))) }
+    ensures cases { OnOk result (cases.new ≡ cases.old ++ map (λ l. l.number) (cases_of (seen_lines behind.now)) ∷ []) }
+    ensures noted { OnOk result (Notes first.old.found first.new.found (OtherWidths width (cases_of (seen_lines behind.now)))) }
 {
-    match reading {
-        Reading::Switch { width, .. } => note_cases(*width, behind, row, first),
-        _ => Ok(()),
-    }
+    let mut row = Vec::new(alloc);
+    note_cases(width, behind, &mut row, first)?;
+    cases.push(row.as_slice())
 }
 
-// Adds the lines of the cases of a line, where it stands for an instruction.
-fn with_row(cases: CaseLines, reading: &Reading, row: &[u32]) -> Result<CaseLines, AllocError>
-    ensures { IfOk result (λ more. more ≡ cases ++ (if is_instruction (said reading.now) then row.now ∷ [] else [])) }
+// Adds the lines of the cases of a line that is no `switch`, where it stands for an instruction: there are none.
+fn push_none(reading: &Reading, cases: &mut CaseLines) -> Result<(), AllocError>
+    ensures { OnOk result (cases.new ≡ cases.old ++ (if is_instruction (said reading.now) then [] ∷ [] else [])) }
 {
     if is_instruction(reading) {
-        cases.with_row(row)
-    } else {
-        Ok(cases)
+        cases.push_none()?;
     }
+    Ok(())
 }
 
 // Adds the lines of the cases of a line, and notes those of another width.
@@ -93,15 +76,16 @@ fn note_one(
     alloc: Global,
     reading: &Reading,
     behind: &[NumberedReading],
-    cases: CaseLines,
+    cases: &mut CaseLines,
     first: &mut First,
-) -> Result<CaseLines, AllocError>
-    ensures cases { IfOk result (λ more. more ≡ cases ++ row_said (seen_lines behind.now) (said reading.now)) }
+) -> Result<(), AllocError>
+    ensures cases { OnOk result (cases.new ≡ cases.old ++ row_said (seen_lines behind.now) (said reading.now)) }
     ensures noted { OnOk result (Notes first.old.found first.new.found (WidthsBehind (said reading.now) (seen_lines behind.now))) }
 {
-    let mut row = Vec::new(alloc);
-    note_switch(reading, behind, &mut row, first)?;
-    with_row(cases, reading, row.as_slice())
+    match reading {
+        Reading::Switch { width, .. } => note_switch(alloc, *width, behind, cases, first),
+        _ => push_none(reading, cases),
+    }
 }
 
 /// The lines of the cases of each instruction of these lines; notes the cases of another width than their `switch`.
@@ -113,9 +97,9 @@ pub(crate) fn note_body(
     ensures cases { IfOk result (λ cases. cases ≡ rows_of (seen_lines body.now)) }
     ensures noted { OnOk result (Notes first.old.found first.new.found (BodyWidths (seen_lines body.now))) }
 {
-    let mut cases = CaseLines::new(alloc);
+    let mut cases = CaseLines::with_room(alloc, body.len())?;
     for (i, line) in body.iter().enumerate() {
-        cases = note_one(alloc, &line.reading, behind(body, i), cases, first)?;
+        note_one(alloc, &line.reading, behind(body, i), &mut cases, first)?;
     }
     Ok(cases)
 }

@@ -29,17 +29,19 @@ use ir_lines::sections::{BlockLines, Definition, HeadNames, blocks};
 use ir_reader::{NumberedReading, Reading};
 use module_build::build::owned;
 use module_build::heads::arguments_of;
-use module_build::lines::{behind, keep, resolve_line};
+use module_build::lines::{behind, resolve_line};
 use module_build::scope::Scope;
 use std::alloc::{AllocError, Global};
 
-// The room for the instructions of the lines of a block; behind a `switch` stand its cases, which are none.
+// The room for the instructions of the lines of a block: behind a `switch`, the last, stand its cases, which are none.
 fn room_for(lines: &[NumberedReading]) -> usize {
-    lines.iter().take_while(|line| !is_case(line)).count()
+    let cases = lines.iter().rev().take_while(|line| is_case(line)).count();
+    lines.len().saturating_sub(cases)
 }
 
+// Whether it belongs to a `switch`.
 fn is_case(line: &NumberedReading) -> bool {
-    matches!(line.reading, Reading::Case { .. })
+    matches!(line.reading, Reading::Case { .. } | Reading::SwitchEnd)
 }
 
 fn insts(
@@ -56,8 +58,15 @@ fn insts(
 {
     let mut insts = Vec::with_capacity(alloc, room_for(lines))?;
     for (i, line) in lines.iter().enumerate() {
-        let made = resolve_line(scope, alloc, line, behind(lines, i), first)?;
-        keep(&mut insts, numbers, line.line, made)?;
+        resolve_line(
+            scope,
+            alloc,
+            line,
+            behind(lines, i),
+            &mut insts,
+            numbers,
+            first,
+        )?;
     }
     Ok(insts)
 }
@@ -122,7 +131,7 @@ fn function(
     ensures made { IfOk result (λ made. made ≡ lined_function (known_in scope.now) (seen_definition func.now)) }
     ensures noted { OnOk result (Notes first.old.found first.new.found (BlocksLost scope.now.form (tables_in scope.now) (map seen_block blocks.now))) }
 {
-    let mut numbers = Vec::new(alloc);
+    let mut numbers = Vec::with_capacity(alloc, func.body.len())?;
     let built = built_blocks(scope, alloc, blocks, &mut numbers, first)?;
     let name = owned(alloc, func.name)?;
     let args = arguments_of(alloc, func.line, func.arguments, names.arguments.as_slice())?;

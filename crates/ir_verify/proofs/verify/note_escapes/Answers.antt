@@ -8,10 +8,14 @@ use Rattle.ir_ast.specs.Faults.DerivedEscapes.{values_leaving}
 use Rattle.ir_verify.specs.Bodies.{insts_of, line_in}
 use Rattle.body_tables.specs.Derivations.{has_mark}
 use Rattle.ir_verify.specs.FunctionFaults.{EscapeAt}
+use Rattle.ir_verify.proofs.Escapes.{nothing-escapes}
 use Rattle.ir_verify.proofs.Founds.{notes-step, notes-all, notes-at_line}
 use Rattle.body_tables.proofs.Elements.{seen-at}
 use Rattle.body_tables.proofs.UserLemmas.{escapes-iff}
 use Rattle.ir_verify.proofs.verify.note_escapes.Goals as goal
+
+pub returns-then-not-has_step : goal.returns-then-not-has_step
+returns-then-not-has_step c = nothing-escapes c.args.func.now c.args.first.now.found (sym c.requires.steps ∙ c.if-not-has_step.true)
 
 pub loop-place-preserved : goal.loop-place-preserved
 loop-place-preserved c =

@@ -14,9 +14,9 @@ pub loop-i-preserved : goal.loop-i-preserved
 loop-i-preserved c =
     let here = seen_line c.index-body-i.result in
     record {
-      made = rows-more c.args.body.now c.loop-i.i c.index-body-i.result c.loop-i.cases c.in_ok-cases.cases (rows_of (seen_lines c.args.body.now))
+      made = rows-more c.args.body.now c.loop-i.i c.index-body-i.result c.loop-i.cases c.note_one.new.cases (rows_of (seen_lines c.args.body.now))
           c.loop-i-test.true c.index-body-i.is
-          (c.in_ok-cases.ensures.cases
+          (c.in_ok-note_one.ensures.cases
           ∙ ap (λ (ys : List NumberedReading). c.loop-i.cases ++ row_said (seen_lines ys) (said c.index-body-i.result.reading)) c.behind.ensures)
           c.loop-i.invariant.made;
       noted = notes-turn WidthsAt (seen_lines c.args.body.now) c.loop-i.i here
@@ -24,7 +24,7 @@ loop-i-preserved c =
           (seen-at seen_line c.args.body.now c.loop-i.i c.index-body-i.result c.loop-i-test.true c.index-body-i.is)
           c.loop-i.invariant.noted
           (subst (λ (after : List Line). Notes c.loop-i.first.found c.note_one.new.first.found (WidthsBehind here.says after))
-          (ap seen_lines c.behind.ensures ∙ sym (drop-map seen_line (c.loop-i.i + 1) c.args.body.now)) c.in_ok-cases.ensures.noted);
+          (ap seen_lines c.behind.ensures ∙ sym (drop-map seen_line (c.loop-i.i + 1) c.args.body.now)) c.in_ok-note_one.ensures.noted);
     }
 
 pub returns : goal.returns

@@ -31,7 +31,7 @@ pub with_lines-requires : goal.with_lines-requires
 with_lines-requires c =
     lines-many (known_in c.args.scope.now) (map seen_block c.args.blocks.now) c.built_blocks.new.numbers.items c.of-whole.result.content.blocks
     (c.in_ok-built.ensures.numbers
-    ∙ ap (λ (ns : List ℕ). ns ++ flat_map (λ (one : BlockLines). numbers_of (known_in c.args.scope.now) one.lines) (map seen_block c.args.blocks.now)) c.new-numbers.ensures.items)
+    ∙ ap (λ (ns : List ℕ). ns ++ flat_map (λ (one : BlockLines). numbers_of (known_in c.args.scope.now) one.lines) (map seen_block c.args.blocks.now)) c.in_ok-numbers.ensures.items)
     (ap (λ (func : Function). func.blocks) c.of-whole.ensures.content ∙ c.in_ok-built.ensures.blocks)
 
 pub returns-clause-made : goal.returns-clause-made
@@ -41,7 +41,7 @@ returns-clause-made c =
     c.requires.blocks
     c.in_ok-args.ensures c.in_ok-built.ensures.blocks
     (c.in_ok-built.ensures.numbers
-    ∙ ap (λ (ns : List ℕ). ns ++ flat_map (λ (one : BlockLines). numbers_of (known_in c.args.scope.now) one.lines) (map seen_block c.args.blocks.now)) c.new-numbers.ensures.items)
+    ∙ ap (λ (ns : List ℕ). ns ++ flat_map (λ (one : BlockLines). numbers_of (known_in c.args.scope.now) one.lines) (map seen_block c.args.blocks.now)) c.in_ok-numbers.ensures.items)
     (content-built c.with_lines.result.content c.in_ok-name.name c.args.func.now.name.now c.type_of.result c.args.func.now.answer c.in_ok-args.args.items
     c.in_ok-built.built.items (c.with_lines.ensures.content ∙ c.of-whole.ensures.content) c.in_ok-name.ensures c.type_of.ensures)
     c.with_lines.ensures.lines

@@ -16,16 +16,17 @@ pub loop-i-preserved : goal.loop-i-preserved
 loop-i-preserved c =
     let known = known_in c.args.scope.now in
     let line = c.index-lines-i.result in
-    let is = c.in_ok-made.ensures.made ∙ ap (λ (ys : List NumberedReading). instruction_said known (seen_lines ys) (said line.reading)) c.behind.ensures in
+    let made = instruction_said known (seen_lines c.behind.result.now) (said line.reading) in
+    let is = ap (λ (ys : List NumberedReading). instruction_said known (seen_lines ys) (said line.reading)) c.behind.ensures in
     record {
-      made = lined-more (λ (one : ℕ × Instruction). one.1) known c.args.lines.now c.loop-i.i line c.in_ok-made.made c.loop-i.insts.items c.keep.new.insts.items
-          (insts_of known (seen_lines c.args.lines.now)) c.loop-i-test.true c.index-lines-i.is is c.in_ok-keep.ensures.insts c.loop-i.invariant.made;
-      numbered = lined-more (λ (one : ℕ × Instruction). one.0) known c.args.lines.now c.loop-i.i line c.in_ok-made.made c.loop-i.numbers.items c.keep.new.numbers.items
-          (c.args.numbers.now.items ++ numbers_of known (seen_lines c.args.lines.now)) c.loop-i-test.true c.index-lines-i.is is c.in_ok-keep.ensures.numbers
+      made = lined-more (λ (one : ℕ × Instruction). one.1) known c.args.lines.now c.loop-i.i line made c.loop-i.insts.items c.resolve_line.new.insts.items
+          (insts_of known (seen_lines c.args.lines.now)) c.loop-i-test.true c.index-lines-i.is is c.in_ok-resolve_line.ensures.insts c.loop-i.invariant.made;
+      numbered = lined-more (λ (one : ℕ × Instruction). one.0) known c.args.lines.now c.loop-i.i line made c.loop-i.numbers.items c.resolve_line.new.numbers.items
+          (c.args.numbers.now.items ++ numbers_of known (seen_lines c.args.lines.now)) c.loop-i-test.true c.index-lines-i.is is c.in_ok-resolve_line.ensures.numbers
           c.loop-i.invariant.numbered;
       noted = notes-turn (LineLostAt c.args.scope.now.form (tables_in c.args.scope.now)) (seen_lines c.args.lines.now) c.loop-i.i (seen_line line)
           c.args.first.now.found c.loop-i.first.found c.resolve_line.new.first.found
-          (seen-at seen_line c.args.lines.now c.loop-i.i line c.loop-i-test.true c.index-lines-i.is) c.loop-i.invariant.noted c.in_ok-made.ensures.noted;
+          (seen-at seen_line c.args.lines.now c.loop-i.i line c.loop-i-test.true c.index-lines-i.is) c.loop-i.invariant.noted c.in_ok-resolve_line.ensures.noted;
     }
 
 pub returns-clause-noted : goal.returns-clause-noted

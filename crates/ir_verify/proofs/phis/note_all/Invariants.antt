@@ -2,7 +2,7 @@ use Rattle.std.proofs.Common.{◌≡◌, length}
 use Rattle.ir_verify.specs.Founds.{FoundBelow}
 use Rattle.ir_verify.specs.FunctionFaults.{BlockFaultAt, start_of}
 use Rattle.ir_lines.specs.Notes.{Notes}
-use Rattle.ir_verify.proofs.phis.note_phis.Given as goal
+use Rattle.ir_verify.proofs.phis.note_all.Given as goal
 
 abbrev pub invariant-loop-number : goal.invariant-loop-number
 invariant-loop-number l = record {
