@@ -1,4 +1,5 @@
 pub mod BaseLemmas
 pub mod BlockLemmas
+pub mod CellLaws
 pub mod SizeLaws
 mod Samples

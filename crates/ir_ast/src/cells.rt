@@ -12,11 +12,12 @@ pub enum Cell {
 }
 
 impl Cell {
-    ghost use Rattle.ir_ast.specs.Cells.{type_of, kind_of, word_of};
+    ghost use Rattle.ir_ast.specs.Cells.{type_of, cell_in, kind_of, is_kind, word_of};
     ghost use Rattle.ir_ast.specs.declared.cells.Cell.{Cell};
 
     /// The cell that has this type, if there is one.
     pub fn of(ty: &Ty) -> Option<Cell>
+        ensures is { result ≡ cell_in ty.now }
         ensures found { IfSome result (λ cell. type_of cell ≡ ty.now) }
         ensures none { IfNone result ((cell : Cell) → type_of cell ≢ ty.now) }
     {
@@ -35,6 +36,13 @@ impl Cell {
             Cell::I64 => 0,
             Cell::Ptr => 1,
         }
+    }
+
+    /// Whether a number is the kind of a cell.
+    pub fn is_kind(number: u64) -> bool
+        ensures { result ≡ is_kind number }
+    {
+        number < 2
     }
 
     /// The spelling of the cell's type.

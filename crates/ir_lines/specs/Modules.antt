@@ -1,5 +1,5 @@
 -- The module that lines stand for, and beside it the line of each instruction.
-use Rattle.std.specs.Prelude.{ℕ, ◌-◌, ◌%◌, ◌^◌, min, List, [], ◌∷◌, ◌++◌, map, flat_map, filter_map, drop, Option, Some, None, option_map, codes, if◌then◌else◌}
+use Rattle.std.specs.Prelude.{ℕ, ◌-◌, ◌%◌, ◌^◌, min, List, [], ◌∷◌, ◌++◌, map, flat_map, filter_map, drop, Option, Some, None, option_map, unwrap_or, codes, if◌then◌else◌}
 use Rattle.std.specs.Str.{bytes_eq}
 use Rattle.sp_ids.specs.declared.ids.BlockId.{BlockId}
 use Rattle.ir_ast.specs.declared.types.Ty.{Ty}
@@ -16,6 +16,7 @@ use Rattle.ir_ast.specs.declared.ops.Callee.{Callee}
 use Rattle.ir_ast.specs.declared.ops.Callee.TheVariants as callees
 use Rattle.ir_ast.specs.declared.ops.Elem.{Elem}
 use Rattle.ir_ast.specs.declared.ops.Elem.TheVariants as elements
+use Rattle.ir_ast.specs.Cells.{cell_in}
 use Rattle.ir_ast.specs.Insts.{Instruction}
 use Rattle.ir_ast.specs.Blocks.{BasicBlock}
 use Rattle.ir_ast.specs.Funcs.{Function}
@@ -62,10 +63,7 @@ type_of types.Plain = tys.Void
 
 -- a field of another type is a fault of its line
 abbrev pub cell_of : TypeWord → Cell
-cell_of types.Managed = cells.Ptr
-cell_of (types.Int width) = cells.I64
-cell_of types.Void = cells.I64
-cell_of types.Plain = cells.I64
+cell_of ty = unwrap_or (cell_in (type_of ty)) cells.I64
 
 abbrev pub element_of : TypeWord → Elem
 element_of (types.Int width) = elements.Int width

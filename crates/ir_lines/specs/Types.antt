@@ -1,10 +1,12 @@
 -- Types as lines spell them, and what fits them.
-use Rattle.std.specs.Prelude.{ℕ, ◌-◌, ◌^◌, Bool, true, false, ◌&&◌, ◌==◌, nat_lt, nat_le, List, [], ◌∷◌, Option, Some, None, if◌then◌else◌}
+use Rattle.std.specs.Prelude.{ℕ, ◌-◌, ◌^◌, Bool, true, false, ◌&&◌, ◌==◌, nat_lt, nat_le, List, [], ◌∷◌, Option, Some, None, is_some, if◌then◌else◌}
 use Rattle.line_parts.specs.declared.readings.TypeWord.{TypeWord}
 use Rattle.line_parts.specs.declared.readings.TypeWord.TheVariants.{Void, Int, Managed, Plain}
 use Rattle.line_tokens.specs.declared.literals.Literal.{Literal}
 use Rattle.line_parts.specs.Parts.{Val}
 use Rattle.line_parts.specs.Parts as values
+use Rattle.ir_ast.specs.Cells.{cell_in}
+use Rattle.ir_lines.specs.Modules.{type_of}
 use Rattle.ir_lines.specs.Sections.{Naming}
 use Rattle.ir_lines.specs.Scope.{Scope, value_named}
 
@@ -20,12 +22,9 @@ same_types [] [] = true
 same_types (ty ∷ tys) (other ∷ others) = same_type ty other && same_types tys others
 same_types _ _ = false
 
--- `i64` or `ptr addrspace(1)`, which memory holds
+-- a type of cells, which memory holds
 abbrev pub is_cell : TypeWord → Bool
-is_cell (Int width) = width == 64
-is_cell Managed = true
-is_cell Void = false
-is_cell Plain = false
+is_cell ty = is_some (cell_in (type_of ty))
 
 -- a literal of iN lies from -2^(N - 1) to 2^N - 1
 abbrev pub is_within : ℕ → Literal → Bool

@@ -4,6 +4,8 @@ ghost use Rattle.std.specs.Prelude.{◌≡◌, ◌^◌, ◌%◌, ◌-◌, nat_lt
 ghost use Rattle.ir_lines.specs.Modules.{wrapped};
 ghost use Rattle.ir_lines.specs.Types.{same_type, is_cell, is_within};
 
+use crate::operands::type_of;
+use ir_ast::Cell;
 use ir_reader::{Literal, TypeWord};
 use sp_ids::wrap;
 
@@ -63,11 +65,11 @@ pub fn is_within(width: u32, literal: Literal) -> bool
     }
 }
 
-/// `i64` or `ptr addrspace(1)`, which memory holds.
+/// A type of cells, which memory holds.
 pub fn is_cell(ty: TypeWord) -> bool
     ensures { result ≡ is_cell ty }
 {
-    matches!(ty, TypeWord::Int(64) | TypeWord::Managed)
+    Cell::of(&type_of(ty)).is_some()
 }
 
 /// Whether two words spell one type.

@@ -9,14 +9,14 @@ use Rattle.sp_ids.specs.declared.ids.FuncId.{FuncId}
 use Rattle.ir_ast.specs.declared.types.Ty.{Ty}
 use Rattle.ir_ast.specs.declared.types.Ty.TheVariants as tys
 use Rattle.ir_ast.specs.declared.cells.Cell.{Cell}
-use Rattle.ir_ast.specs.declared.cells.Cell.TheVariants as cells
 use Rattle.ir_ast.specs.declared.ops.Elem.{Elem}
 use Rattle.ir_ast.specs.declared.ops.Elem.TheVariants as elements
 use Rattle.ir_ast.specs.declared.ops.Op.{Op}
 use Rattle.ir_ast.specs.declared.ops.Op.TheVariants as ops
 use Rattle.ir_ast.specs.declared.ops.Operand.{Operand}
 use Rattle.ir_ast.specs.declared.ops.Operand.TheVariants as operands
-use Rattle.ir_ast.specs.Cells.{type_of}
+use Rattle.ir_ast.specs.Cells.{cell_in}
+use Rattle.ir_ast.proofs.CellLaws.{has_type, type_found}
 use Rattle.ir_ast.specs.Insts.{Instruction}
 use Rattle.ir_ast.specs.Funcs.{Function, instructions_of}
 use Rattle.ir_ast.specs.Values.{value_types}
@@ -131,21 +131,12 @@ wider_decided width tys.Void = inr (λ is. let e : tys.Void ≡ tys.Int is.0 = i
 wider_decided width tys.Ptr = inr (λ is. let e : tys.Ptr ≡ tys.Int is.0 = is.1 in cc)
 wider_decided width tys.Token = inr (λ is. let e : tys.Token ≡ tys.Int is.0 = is.1 in cc)
 
-no_cell : (ty : Ty) → tys.Int 64 ≢ ty → tys.Ptr ≢ ty → ¬ IsCellType ty
-no_cell ty no_int no_ptr is = by is.0 is.1
-  where
-    by : (cell : Cell) → type_of cell ≡ ty → ⊥
-    by cells.I64 e = no_int e
-    by cells.Ptr e = no_ptr e
-
 cell_decided : (ty : Ty) → Decided (IsCellType ty)
-cell_decided (tys.Int width) = elim (number_decided 64 width) [
-  | inl e ↦ inl (cells.I64, ap tys.Int e)
-  | inr f ↦ inr (no_cell (tys.Int width) (λ e. f (let g : 64 ≡ width = cc in g)) (λ e. (cc)))
-]
-cell_decided tys.Ptr = inl (cells.Ptr, refl)
-cell_decided tys.Void = inr (no_cell tys.Void (λ e. (cc)) (λ e. (cc)))
-cell_decided tys.Token = inr (no_cell tys.Token (λ e. (cc)) (λ e. (cc)))
+cell_decided ty = by (cell_in ty) refl
+  where
+    by : (found : Option Cell) → cell_in ty ≡ found → Decided (IsCellType ty)
+    by (Some cell) e = inl (cell, has_type ty cell e)
+    by None e = inr (λ is. let bad : None ≡ Some is.0 = sym e ∙ ap cell_in (sym is.1) ∙ type_found is.0 in cc)
 
 below_decided-if : (place : ℕ) (o : Option ℕ) → Decided (IfSome o (λ count. place < count))
 below_decided-if place None = inl tt

@@ -16,7 +16,7 @@ ghost use Rattle.ir_lines.specs.Views.{seen_guarded};
 
 use crate::lost::Lost;
 use crate::scope::Scope;
-use ir_ast::Form;
+use ir_ast::{Cell, Form};
 use ir_lines::literals::{is_within, same_type, wrapped};
 use ir_lines::names::{Names, is_text};
 use ir_lines::operands::passed_type;
@@ -124,12 +124,12 @@ fn are_types_of(types: &[TypeWord], parameters: &[Argument]) -> bool
     true
 }
 
-// Whether it is the literal 0 or 1, the kind of a cell.
+// Whether it is a literal that is the kind of a cell.
 fn is_kind(value: &Value) -> bool
     ensures { result ≡ is_kind (seen_value value.now) }
 {
     match value {
-        Value::Number(literal) => wrapped(64, *literal) <= 1,
+        Value::Number(literal) => Cell::is_kind(wrapped(64, *literal)),
         _ => false,
     }
 }

@@ -36,10 +36,7 @@ pub fn arguments_of(
 fn cell_of(ty: TypeWord) -> Cell
     ensures { result ≡ cell_of ty }
 {
-    match ty {
-        TypeWord::Managed => Cell::Ptr,
-        TypeWord::Int(_) | TypeWord::Void | TypeWord::Plain => Cell::I64,
-    }
+    Cell::of(&type_of(ty)).unwrap_or(Cell::I64)
 }
 
 fn cells_of(alloc: Global, fields: &[TypeWord]) -> Result<Vec<Cell>, AllocError>

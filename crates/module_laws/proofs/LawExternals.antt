@@ -1,9 +1,8 @@
 -- A call of an external, and a call of either kind.
-use Rattle.std.proofs.Common.{◌≡◌, ◌∙◌, ◌⊎◌, inl, inr, ℕ, zero, suc, ◌<◌, Bool, true, false, not, ◌&&◌, ◌||◌, List, [], ◌∷◌, map, length, refl, ap, sym, subst, arith}
-use Rattle.std.specs.Prelude.{Option, Some, None, is_none, nat_le, find, codes, filter_map}
+use Rattle.std.proofs.Common.{◌≡◌, ◌∙◌, ◌⊎◌, inl, inr, ℕ, ◌<◌, Bool, true, false, not, ◌&&◌, ◌||◌, List, [], ◌∷◌, map, length, refl, ap, sym, subst, arith}
+use Rattle.std.specs.Prelude.{Option, Some, None, is_none, find, codes, filter_map}
 use Rattle.std.specs.List.{All, AllByRecursion, Contains, list_any}
 use Rattle.std.specs.Str.{bytes_eq}
-use Rattle.std.proofs.lemmas.Bool.{leb-true}
 use Rattle.std.proofs.lemmas.List.{length-map}
 use Rattle.std.proofs.lemmas.List.Elements.{All-nil, All-cons, All-contains, All-from_recursion, recursion_from_All, Contains-append_cases}
 use Rattle.ir_ast.specs.declared.types.Ty.TheVariants as tys
@@ -15,10 +14,9 @@ use Rattle.ir_ast.specs.Scope.{Signature, called_in, scope_of as module_scope}
 use Rattle.ir_ast.specs.Faults.TypeClash.{TakesOperands, ChecksKind}
 use Rattle.ir_ast.specs.declared.modules.Form.{Form}
 use Rattle.ir_ast.specs.declared.modules.Form.TheVariants.{Source, Rewritten}
-use Rattle.ir_ast.specs.declared.cells.Cell.{Cell}
-use Rattle.ir_ast.specs.declared.cells.Cell.TheVariants as cells
 use Rattle.ir_ast.specs.declared.ops.Operand.TheVariants as operands
-use Rattle.ir_ast.specs.Cells.{kind_of}
+use Rattle.ir_ast.specs.Cells.{is_kind}
+use Rattle.ir_ast.proofs.CellLaws.{kind_cell}
 use Rattle.line_parts.specs.declared.readings.TypeWord.{TypeWord}
 use Rattle.line_parts.specs.declared.readings.TypeWord.TheVariants.{Void, Int, Managed, Plain}
 use Rattle.line_tokens.specs.declared.literals.Literal.{Literal}
@@ -287,13 +285,7 @@ calls_same form lines func name answer passed c =
     (λ is. absurd (not_called form lines func name answer passed own_same c is_same is))
     (All-nil (λ layout. layout < length (module_of form lines).content.layouts)) refl
 
--- a number that is 0 or 1 is the kind of a cell
-kind_cell : (n : ℕ) → nat_le n 1 ≡ true → (cell : Cell) × (n ≡ kind_of cell)
-kind_cell zero e = (cells.I64, refl)
-kind_cell (suc zero) e = (cells.Ptr, refl)
-kind_cell (suc (suc n)) e = absurd (let few = leb-true (suc (suc n)) 1 e in omega arith)
-
-kind_at : (known : Known) (a b : Given) (ty : TypeWord) (literal : Literal) (more : List Given) → ty ≡ Int 64 → nat_le (wrapped 64 literal) 1 ≡ true
+kind_at : (known : Known) (a b : Given) (ty : TypeWord) (literal : Literal) (more : List Given) → ty ≡ Int 64 → is_kind (wrapped 64 literal) ≡ true
     → ChecksKind (map (passed_operand known) (a ∷ b ∷ given ty (values.number literal) ∷ more))
 kind_at known a b ty literal more is small =
     let kind = kind_cell (wrapped 64 literal) small in (

@@ -1,5 +1,5 @@
 -- A function of the source form with a derived phi.
-use Rattle.std.proofs.Common.{◌≡◌, ℕ, List, [], ◌∷◌, ◌+◌, ◌<◌, sym, ap, slice_get, zero, suc, Option, Some, None, refl, codes, arith, rules}
+use Rattle.std.proofs.Common.{◌≡◌, ℕ, List, [], ◌∷◌, ◌+◌, ◌<◌, sym, ap, ◌∙◌, slice_get, zero, suc, Option, Some, None, refl, codes, arith, rules}
 use Rattle.sp_ids.specs.declared.ids.BlockId.{BlockId}
 use Rattle.ir_ast.specs.declared.types.Ty.{Ty}
 use Rattle.ir_ast.specs.declared.types.Ty.TheVariants.{Void, Int, Ptr}
@@ -19,7 +19,8 @@ use Rattle.ir_ast.specs.Derived.{Derived, by_step, by_merge}
 use Rattle.ir_ast.specs.declared.cells.Cell.TheVariants.{I64, Ptr as Pointer}
 use Rattle.ir_ast.specs.declared.modules.Form.TheVariants.{Source}
 use Rattle.ir_ast.specs.Modules.{ModuleContent}
-use Rattle.ir_ast.specs.Cells.{type_of}
+use Rattle.ir_ast.specs.Cells.{cell_in}
+use Rattle.ir_ast.proofs.CellLaws.{type_found}
 use Rattle.ir_ast.specs.Scope.{Scope, scope_of}
 use Rattle.ir_ast.specs.Faults.TypeClash.{IsTyped}
 use Rattle.ir_ast.specs.Faults.PhiEdges.{PhiIsRight}
@@ -130,7 +131,7 @@ no_third_field typed = let wrong : 2 < 2 = typed.rule in absurd (omega arith)
 
 -- %v = load i32, ptr addrspace(1) %q
 no_narrow_load : ¬ IsTyped scope (line (Some (codes "v")) Load (Int 32) (value 4 ∷ []) [])
-no_narrow_load typed = elim typed.rule.0 as (λ cell. type_of cell ≡ Int 32 → ⊥) [ I64 ↦ λ e. cc | Pointer ↦ λ e. cc ] typed.rule.1
+no_narrow_load typed = let bad : None ≡ Some typed.rule.0 = ap cell_in (sym typed.rule.1) ∙ type_found typed.rule.0 in cc
 
 -- %v = load i64, ptr addrspace(1) %x
 no_load_of_integers : ¬ IsTyped scope (line (Some (codes "v")) Load (Int 64) (value 1 ∷ []) [])

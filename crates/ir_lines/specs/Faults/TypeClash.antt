@@ -1,11 +1,12 @@
 -- Code 5 of a call: it hasn't the types of the first head of its name, or an external asks for other operands.
-use Rattle.std.specs.Prelude.{ℕ, Bool, true, false, not, ◌&&◌, ◌||◌, nat_le, List, [], ◌∷◌, map, codes, Option, Some, None}
+use Rattle.std.specs.Prelude.{ℕ, Bool, true, false, not, ◌&&◌, ◌||◌, List, [], ◌∷◌, map, codes, Option, Some, None}
 use Rattle.std.specs.Str.{bytes_eq}
 use Rattle.line_parts.specs.declared.readings.TypeWord.{TypeWord}
 use Rattle.line_parts.specs.declared.readings.TypeWord.TheVariants.{Void, Int, Managed}
 use Rattle.line_parts.specs.Parts.{Val}
 use Rattle.line_parts.specs.Parts as values
 use Rattle.line_parts.specs.Lists.{Given, given, function}
+use Rattle.ir_ast.specs.Cells as cells
 use Rattle.ir_ast.specs.declared.modules.Form.{Form}
 use Rattle.ir_lines.specs.Statements.{Guarded}
 use Rattle.ir_lines.specs.Sections.{Head}
@@ -25,9 +26,9 @@ starts_task scope [] = true
 starts_task scope (function name ∷ passed) = is_task (head_named scope name)
 starts_task scope (given ty value ∷ passed) = false
 
--- the literal 0 or 1, the kind of a cell
+-- a literal that is the kind of a cell
 abbrev pub is_kind : Val → Bool
-is_kind (values.number literal) = nat_le (wrapped 64 literal) 1
+is_kind (values.number literal) = cells.is_kind (wrapped 64 literal)
 is_kind _ = false
 
 abbrev pub gives_kind : Given → Bool
