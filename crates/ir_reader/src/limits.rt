@@ -248,6 +248,7 @@ pub fn reading_fits(reading: &Reading) -> bool
             ..
         } => type_fits(*from) && value_fits(value) && type_fits(*to),
         Reading::Statepoint { call, live, .. } => {
+            let call = &**call;
             literal_fits(call.id)
                 && type_fits(call.function_type.answer)
                 && types_fit(call.function_type.parameters.as_slice())

@@ -56,7 +56,7 @@ seen readings.ReturnVoid = of_form forms.ReturnVoid []
 seen (readings.Return t v) = of_form forms.Return (ty t ∷ value (seen_value v) ∷ [])
 seen readings.Unreachable = of_form forms.Unreachable []
 seen (readings.Cast x op t v u) = of_form (forms.Cast op) (name x.now ∷ ty t ∷ value (seen_value v) ∷ ty u ∷ [])
-seen (readings.Statepoint x c vs) = of_form forms.Statepoint (name x.now ∷ literal c.id ∷ ty c.function_type.answer ∷ types c.function_type.parameters.items ∷ name c.callee.now ∷ literal c.count ∷ handed (map seen_passed c.passed.items) ∷ live (map seen_value vs.items) ∷ [])
+seen (readings.Statepoint x c vs) = of_form forms.Statepoint (name x.now ∷ literal c.value.id ∷ ty c.value.function_type.answer ∷ types c.value.function_type.parameters.items ∷ name c.value.callee.now ∷ literal c.value.count ∷ handed (map seen_passed c.value.passed.items) ∷ live (map seen_value vs.items) ∷ [])
 seen (readings.GcResult x t token) = of_form forms.GcResult (name x.now ∷ ty t ∷ name token.now ∷ [])
 seen (readings.GcRelocate x token b d) = of_form forms.GcRelocate (name x.now ∷ name token.now ∷ literal b ∷ literal d ∷ [])
 

@@ -1,7 +1,8 @@
 //! The lines of statepoint groups, and the declarations of what they call.
 #![tactic(auto, unfolding(crate::specs::Seen::line_at, crate::specs::Forms::fit, crate::specs::Slots::parse, crate::specs::Slots::part, line_parts::specs::Gives::after))]
 
-ghost use Rattle.std.specs.Prelude.{[], ◌∷◌, map};
+ghost use Rattle.std.specs.Prelude.{List, [], ◌∷◌, map};
+ghost use Rattle.sp_text.specs.Tokens.{Tok};
 ghost use Rattle.line_parts.specs.Gives.{Gives};
 ghost use Rattle.line_parts.specs.Seen.{seen_passed, seen_value};
 ghost use Rattle.line_forms.specs.Forms.{result_is, calling, first_types, last_types, point_id, callee_type, callee_count, point_end};
@@ -117,6 +118,30 @@ fn point_end<'a>(
     Ok((passed, live))
 }
 
+// A statepoint, whose call is kept apart, so that other readings stay small.
+fn boxed<'a>(
+    alloc: Global,
+    token: &'a [u8],
+    call: StatepointCall<'a>,
+    entries: LiveEntries<'a>,
+) -> Result<Reading<'a>, Stop>
+    ensures { (rest : List Tok) → Gives seen result rest (Some (
+      of_form Form.Statepoint (name token.now ∷ literal call.entry.id
+          ∷ ty call.entry.function_type.answer ∷ types call.entry.function_type.parameters.items ∷ name call.entry.callee.now
+          ∷ literal call.entry.count ∷ handed (map seen_passed call.entry.passed.items) ∷ live (map seen_value entries.entry.items) ∷ []),
+      rest,
+    )) }
+{
+    match Box::new(alloc, call) {
+        Ok(call) => Ok(Reading::Statepoint {
+            result: token,
+            call,
+            live: entries,
+        }),
+        Err(_) => Err(Stop::Memory),
+    }
+}
+
 #[tactic(auto, unfolding(crate::specs::Seen::line_at, crate::specs::Forms::fit, line_parts::specs::Gives::after))]
 #[inline(never)]
 pub fn statepoint<'a>(cursor: &mut Cursor<'_, 'a>, alloc: Global) -> Result<Reading<'a>, Stop>
@@ -143,7 +168,7 @@ pub fn statepoint<'a>(cursor: &mut Cursor<'_, 'a>, alloc: Global) -> Result<Read
         count,
         passed,
     };
-    Ok(Reading::Statepoint { result, call, live })
+    boxed(alloc, result, call, live)
 }
 
 #[inline(never)]

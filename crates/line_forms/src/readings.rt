@@ -174,7 +174,7 @@ pub enum Reading<'a> {
     /// i32 0, T V, .., i32 0, i32 0) [ "gc-live"(P V, ..) ]`, with the live entries, in the rewritten form
     Statepoint {
         result: &'a [u8],
-        call: StatepointCall<'a>,
+        call: Box<StatepointCall<'a>>,
         live: LiveEntries<'a>,
     },
     /// `%x = call T @llvm.experimental.gc.result.S(token %t)`, in the rewritten form

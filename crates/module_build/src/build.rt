@@ -844,7 +844,7 @@ impl Scope<'_, '_, '_, '_> {
                 insts,
             ),
             Reading::Statepoint { result, call, live } => {
-                self.statepoint(alloc, result, call, live.as_slice(), insts, lost)
+                self.statepoint(alloc, result, &**call, live.as_slice(), insts, lost)
             }
             Reading::GcResult {
                 result,

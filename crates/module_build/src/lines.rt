@@ -41,7 +41,7 @@ fn spells_wrong_count(reading: &Reading) -> bool
     ensures { result ≡ spells_wrong_count (said reading.now) }
 {
     match reading {
-        Reading::Statepoint { call, .. } => !tells_count(call),
+        Reading::Statepoint { call, .. } => !tells_count(&**call),
         _ => false,
     }
 }

@@ -15,7 +15,7 @@ loop-line-preserved c =
           ∙ case_values-more c.args.local.now.values c.args.width c.line-item.result rest c.in-Case.width c.in-Case.value c.in-Case.label c.in-Case.is
           ∙ ap (λ one. one ∷ case_values c.args.local.now.values c.args.width rest) (sym c.operand-in-loop-line.ensures))
           c.loop-line.invariant.made;
-      labelled = moved _ _ _ _ _ _ c.in_ok-push-4.ensures.items
+      labelled = moved _ _ _ _ _ _ c.in_ok-push-4.ensures.ok
           (ap (λ ys. case_labels c.args.local.now.blocks (seen_lines ys)) here
           ∙ case_labels-more c.args.local.now.blocks c.line-item.result rest c.in-Case.width c.in-Case.value c.in-Case.label c.in-Case.is
           ∙ ap (λ one. one ∷ case_labels c.args.local.now.blocks rest) (sym c.label-in-loop-line.ensures))
