@@ -65,4 +65,4 @@ returns-then-not-takes_own c = rw (pieces (result_is (calling [])) (first_types 
 
 pub returns : goal.returns
 unfolding line_at fit after
-returns c = rw (pieces (result_is (calling [])) (first_types ++ (last_types ++ (point_id ++ (callee_type ++ (callee_count ++ point_end))))) c.args.cursor.now, c.in_ok-result.ensures, pieces first_types (last_types ++ (point_id ++ (callee_type ++ (callee_count ++ point_end)))) c.called_result.new.cursor, c.in_ok-first_types.ensures, pieces last_types (point_id ++ (callee_type ++ (callee_count ++ point_end))) c.first_types.new.cursor, c.in_ok-last_types.ensures, pieces point_id (callee_type ++ (callee_count ++ point_end)) c.last_types.new.cursor, c.in_ok-id.ensures, pieces callee_type (callee_count ++ point_end) c.statepoint_id.new.cursor, c.in_ok-function_type.ensures, pieces callee_count point_end c.callee_type.new.cursor, c.in_ok-callee.ensures, c.in_ok-passed.ensures, ← c.as_slice.ensures, ← c.as_slice-2.ensures, sym c.takes_own.ensures ∙ c.if-not-takes_own.false) (c.boxed.ensures c.point_end.new.cursor)
+returns c = rw (pieces (result_is (calling [])) (first_types ++ (last_types ++ (point_id ++ (callee_type ++ (callee_count ++ point_end))))) c.args.cursor.now, c.in_ok-result.ensures, pieces first_types (last_types ++ (point_id ++ (callee_type ++ (callee_count ++ point_end)))) c.called_result.new.cursor, c.in_ok-first_types.ensures, pieces last_types (point_id ++ (callee_type ++ (callee_count ++ point_end))) c.first_types.new.cursor, c.in_ok-last_types.ensures, pieces point_id (callee_type ++ (callee_count ++ point_end)) c.last_types.new.cursor, c.in_ok-id.ensures, pieces callee_type (callee_count ++ point_end) c.statepoint_id.new.cursor, c.in_ok-function_type.ensures, pieces callee_count point_end c.callee_type.new.cursor, c.in_ok-callee.ensures, c.in_ok-passed.ensures, ← c.as_slice.ensures, ← c.as_slice-2.ensures, sym c.takes_own.ensures ∙ c.if-not-takes_own.false, c.as_slice.ensures, c.as_slice-2.ensures) (c.boxed.ensures c.point_end.new.cursor)
