@@ -15,5 +15,5 @@ of-requires-3 c =
 pub returns-clause-content : goal.returns-clause-content
 unfolding main_of
 returns-clause-content c =
-    rw (c.of-3.ensures.content, c.of-name.ensures, c.in_ok-from_slice-2.ensures.items, c.new.ensures.items, c.in_ok-push-2.ensures.items, c.in_ok-blocks.ensures.items, c.of-2.ensures, c.of.ensures, c.in_ok-from_slice.ensures.items, c.in_ok-push.ensures.items, c.in_ok-insts.ensures, c.in_ok-write.ensures)
+    rw (c.of-3.ensures.content, c.of-name.ensures, c.in_ok-from_slice-2.ensures.ok, c.new.ensures.items, c.in_ok-push-2.ensures.items, c.in_ok-blocks.ensures.items, c.of-2.ensures, c.of.ensures, c.in_ok-from_slice.ensures.ok, c.in_ok-push.ensures.items, c.in_ok-insts.ensures, c.in_ok-write.ensures)
     refl
