@@ -1,7 +1,7 @@
 //! The parts that modules are made from, each made and taken apart.
 
 use anyhow::Result;
-use ir_ast::{BaseTable, Cell, Layout, LiveTable, Name, Operand, Ty, Types};
+use ir_ast::{BaseTable, Cell, Layout, LiveTable, Name, NameBytes, Operand, Ty, Types};
 use sp_ids::ValueId;
 use std::alloc::Global;
 
@@ -40,7 +40,7 @@ fn show_lists(rt: &impl Print, alloc: Global) -> Result<()> {
 }
 
 fn name_of(alloc: Global, bytes: &[u8]) -> Result<Name> {
-    Ok(Name::of(Vec::from_slice(alloc, bytes)?))
+    Ok(Name::of(NameBytes::from_slice(alloc, bytes)?))
 }
 
 fn show_tables(rt: &impl Print, alloc: Global) -> Result<()> {
