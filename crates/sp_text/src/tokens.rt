@@ -1,6 +1,5 @@
-ghost use Rattle.std.specs.Prelude.{◌≡◌, ◌+◌, ◌++◌, ◌≤◌, ◌↔◌, length, map, take, drop, IsTrue, IsErr, IfOk, IfErr, IfSome};
-ghost use Rattle.sp_text.specs.TokenAt.{IsFirstToken, BeginsNoToken, past_blanks, tokens_by, seen_token};
-ghost use Rattle.sp_text.specs.Tokens.{tokens, says_nothing};
+ghost use Rattle.std.specs.Prelude.{IsTrue};
+ghost use Rattle.sp_text.specs.Tokens.{is_token};
 
 use crate::fronts::{after, blanks_len, front};
 use crate::lines::Line;
@@ -33,6 +32,7 @@ pub enum Kind {
 pub struct Token<'a> {
     pub kind: Kind,
     pub bytes: &'a [u8],
+    pub ghost spelled: { IsTrue (is_token kind bytes.now) },
 }
 
 /// A token of a line in its place, the longest there.
@@ -65,6 +65,10 @@ impl fmt::Display for BadByte {
 impl Error for BadByte {}
 
 impl<'a> Line<'a> {
+    ghost use Rattle.std.specs.Prelude.{◌≡◌, ◌+◌, ◌++◌, ◌≤◌, ◌↔◌, length, map, take, drop, IsErr, IfOk, IfErr, IfSome};
+    ghost use Rattle.sp_text.specs.TokenAt.{IsFirstToken, BeginsNoToken, past_blanks, tokens_by, seen_token};
+    ghost use Rattle.sp_text.specs.Tokens.{tokens, says_nothing};
+
     /// The first token at or after `from`: `None` exactly where only blanks or a comment follow, and
     /// [`BadByte`] exactly where the first byte after the blanks begins no token.
     #[inline(always)]
