@@ -1,10 +1,10 @@
 -- The kind of a token by its first byte, and the longest token with which a list begins.
-use Rattle.std.proofs.Common.{◌≡◌, refl, sym, ◌∙◌, ℕ, zero, suc, ◌+◌, ◌<◌, ◌≤◌, ◌≢◌, Bool, true, false, ◌&&◌, List, [], ◌∷◌, length, take, arith, cond, Option, None, Some, inl, inr}
+use Rattle.std.proofs.Common.{◌≡◌, refl, sym, ◌∙◌, ℕ, zero, suc, ◌+◌, ◌<◌, ◌≤◌, Bool, true, false, ◌&&◌, List, [], ◌∷◌, length, take, arith, cond, Option, None, Some, inl, inr}
 use Rattle.std.specs.Prelude.{◌==◌, MatchOption}
 use Rattle.std.specs.Option.{option_map}
 use Rattle.std.specs.List.{list_all}
 use Rattle.std.specs.Char.{is_ascii_digit}
-use Rattle.std.proofs.lemmas.Bool.{cases_eq, agree_below, agree_below_at, ne_eqb, cond-true, cond-false}
+use Rattle.std.proofs.lemmas.Bool.{cases_eq, agree_below, agree_below_at, cond-true, cond-false}
 use Rattle.std.proofs.Math.Bool.{or-false}
 use Rattle.sp_text.specs.Bytes.{bang, quote, hash, percent, minus, dot, at_sign, begins_word, in_word, is_mark}
 use Rattle.sp_text.specs.Fronts.{IsLongestFront, HasNoFront}
@@ -51,16 +51,9 @@ word_kind b small word cs =
     simp (word, dots, local_name, global_name, sign, quoted, group, meta, mark, digit) (simp or-false)
 
 -- any other byte begins no token
-pub no_kind : (b : ℕ) → begins_word b ≡ false → is_ascii_digit b ≡ false → is_mark b ≡ false → b ≢ percent → b ≢ at_sign → b ≢ minus → b ≢ hash → b ≢ quote → b ≢ bang → b ≢ dot → (cs : List ℕ) → kind_of (b ∷ cs) ≡ None
+pub no_kind : (b : ℕ) → begins_word b ≡ false → is_ascii_digit b ≡ false → is_mark b ≡ false → (b == percent) ≡ false → (b == at_sign) ≡ false → (b == minus) ≡ false → (b == hash) ≡ false → (b == quote) ≡ false → (b == bang) ≡ false → (b == dot) ≡ false → (cs : List ℕ) → kind_of (b ∷ cs) ≡ None
 unfolding kind_of
-no_kind b word digit mark no_local no_global no_sign no_hash no_quote no_bang no_dot cs =
-    let local_name : (b == percent) ≡ false = ne_eqb b percent no_local in
-    let global_name : (b == at_sign) ≡ false = ne_eqb b at_sign no_global in
-    let sign : (b == minus) ≡ false = ne_eqb b minus no_sign in
-    let group : (b == hash) ≡ false = ne_eqb b hash no_hash in
-    let quoted : (b == quote) ≡ false = ne_eqb b quote no_quote in
-    let meta : (b == bang) ≡ false = ne_eqb b bang no_bang in
-    let dots : (b == dot) ≡ false = ne_eqb b dot no_dot in
+no_kind b word digit mark local_name global_name sign group quoted meta dots cs =
     simp (word, dots, local_name, global_name, sign, quoted, group, meta, mark, digit)
 
 -- the longest front, from what is known of its kinds

@@ -1,5 +1,5 @@
 -- What is found first from a place of a line on.
-use Rattle.std.specs.Prelude.{◌≡◌, ℕ, ◌+◌, ◌<◌, ◌≤◌, false, IsTrue, List, [], ◌∷◌, length, drop, take, slice_range, Option, None, Some, Result, Ok, Err}
+use Rattle.std.specs.Prelude.{◌≡◌, ℕ, ◌+◌, ◌<◌, ◌≤◌, ◌⊎◌, false, IsTrue, List, [], ◌∷◌, length, drop, take, slice_range, Option, None, Some, Result, Ok, Err}
 use Rattle.std.specs.List.{list_all, prefix_len}
 use Rattle.sp_text.specs.Bytes.{is_blank, after_blanks}
 use Rattle.sp_text.specs.Tokens.{is_token, says_nothing, Tok, tok, bad, tokens}
@@ -33,5 +33,10 @@ tokens_by line (Ok None) = []
 tokens_by line (Ok (Some token)) = tok token.kind token.bytes.now ∷ tokens (drop token.to line)
 tokens_by line (Err byte) = bad ∷ []
 
+-- nothing follows, or a byte that begins no token
+abbrev pub HasNoToken : List ℕ → Type 0
+HasNoToken bs = (tokens bs ≡ []) ⊎ (tokens bs ≡ bad ∷ [])
+
+-- the token as a line has it: its place in memory means nothing
 abbrev pub seen_token : Token → Tok
 seen_token token = tok token.kind token.bytes.now

@@ -1,12 +1,12 @@
-ghost use Rattle.std.specs.Prelude.{◌≡◌, ◌+◌, ◌^◌, ◌<◌, ◌≤◌, ◌∷◌, ◌==◌, length, drop, position, MatchOption};
+ghost use Rattle.std.specs.Prelude.{◌≡◌, ◌≤◌, ◌∷◌, ◌==◌, length, drop, position, MatchOption};
 ghost use Rattle.std.specs.List.{prefix_len};
-ghost use Rattle.std.specs.Option.{option_map, ForSome};
 ghost use Rattle.std.specs.Char.{is_ascii_digit};
-ghost use Rattle.sp_text.specs.Bytes.{is_blank, after_blanks, begins_name, begins_word, in_name, in_word, is_mark};
+ghost use Rattle.sp_text.specs.Bytes.{after_blanks, in_name, in_word};
 ghost use Rattle.sp_text.specs.Fronts.{IsLongestFront, HasNoFront};
+ghost use Rattle.sp_text.specs.TokenAt.{past_blanks};
 ghost use Rattle.sp_text.specs.Tokens.{front_of, are_digits, ends_quote, is_bang_end, is_ellipsis_end, is_name};
 
-use crate::bytes::{begins_name, begins_word, is_blank, is_in_name, is_in_word, is_mark};
+use crate::bytes::{FIRST_BYTES, begins_name, is_blank, is_in_name, is_in_word};
 use crate::tokens::Kind;
 use memchr::memchr;
 
@@ -15,27 +15,19 @@ use memchr::memchr;
 pub(crate) fn front(first: u8, rest: &[u8]) -> Option<(Kind, usize)>
     ensures { result ≡ front_of (first ∷ rest.now) }
 {
-    match first {
-        b'%' => of_kind(Kind::Local, name_front(rest)),
-        b'@' => of_kind(Kind::Global, name_front(rest)),
-        b'-' => of_kind(Kind::Number, digits_front(rest)),
-        b'#' => of_kind(Kind::Hash, digits_front(rest)),
-        b'"' => of_kind(Kind::Quoted, quote_front(rest)),
-        b'!' => of_kind(Kind::Bang, bang_front(rest)),
-        b'.' => of_kind(Kind::Word, ellipsis_front(rest)),
-        _ if is_mark(first) => Some((Kind::Punct, 1)),
-        _ if first.is_ascii_digit() => Some((Kind::Number, 1 + digits_len(rest))),
-        _ if begins_word(first) => Some((Kind::Word, 1 + word_len(rest))),
+    match FIRST_BYTES[first as usize] {
+        b',' => Some((Kind::Punct, 1)),
+        b'a' => Some((Kind::Word, 1 + word_len(rest))),
+        b'0' => Some((Kind::Number, 1 + digits_len(rest))),
+        b'%' => Some((Kind::Local, 1 + name_front(rest)?)),
+        b'@' => Some((Kind::Global, 1 + name_front(rest)?)),
+        b'-' => Some((Kind::Number, 1 + digits_front(rest)?)),
+        b'#' => Some((Kind::Hash, 1 + digits_front(rest)?)),
+        b'"' => Some((Kind::Quoted, 1 + quote_front(rest)?)),
+        b'!' => Some((Kind::Bang, 1 + bang_front(rest)?)),
+        b'.' => Some((Kind::Word, 1 + ellipsis_front(rest)?)),
         _ => None,
     }
-}
-
-// A token of one byte and what follows it.
-fn of_kind(kind: Kind, rest: Option<usize>) -> Option<(Kind, usize)>
-    requires { ForSome rest (λ len. len + 1 < 2 ^ 64) }
-    ensures { result ≡ option_map (λ len. (kind, 1 + len)) rest }
-{
-    rest.map(|len| (kind, 1 + len))
 }
 
 // A name or a number without leading zeros.
@@ -109,7 +101,7 @@ pub(crate) fn after(bytes: &[u8], place: usize) -> &[u8]
 pub(crate) fn after_blanks(bytes: &[u8]) -> &[u8]
     ensures { result.now ≡ after_blanks bytes.now }
 {
-    after(bytes, blanks_len(bytes))
+    after(bytes, past_blanks(bytes, 0))
 }
 
 // The place of the first byte that is this one.
@@ -119,12 +111,18 @@ pub(crate) fn find(bytes: &[u8], byte: u8) -> Option<usize>
     memchr(byte, bytes)
 }
 
-// How many blanks stand first.
-pub(crate) fn blanks_len(bytes: &[u8]) -> usize
-    ensures len { result ≡ prefix_len is_blank bytes.now }
+// The place of the first byte from `from` on that is no blank.
+#[inline(always)]
+pub(crate) fn past_blanks(bytes: &[u8], from: usize) -> usize
+    requires { from ≤ length bytes.now }
+    ensures place { result ≡ past_blanks bytes.now from }
     ensures within { result ≤ length bytes.now }
 {
-    bytes.iter().take_while(|b| is_blank(**b)).count()
+    let mut at = from;
+    while at < bytes.len() && is_blank(bytes[at]) {
+        at += 1;
+    }
+    at
 }
 
 // How many digits stand first.

@@ -1,7 +1,7 @@
 ghost use Rattle.std.specs.Prelude.{IsTrue};
 ghost use Rattle.sp_text.specs.Tokens.{is_token};
 
-use crate::fronts::{after, blanks_len, front};
+use crate::fronts::{after, front, past_blanks};
 use crate::lines::Line;
 use std::error::Error;
 use std::fmt;
@@ -65,8 +65,8 @@ impl fmt::Display for BadByte {
 impl Error for BadByte {}
 
 impl<'a> Line<'a> {
-    ghost use Rattle.std.specs.Prelude.{◌≡◌, ◌+◌, ◌++◌, ◌≤◌, ◌↔◌, length, map, take, drop, IsErr, IfOk, IfErr, IfSome};
-    ghost use Rattle.sp_text.specs.TokenAt.{IsFirstToken, BeginsNoToken, past_blanks, tokens_by, seen_token};
+    ghost use Rattle.std.specs.Prelude.{◌≡◌, ◌++◌, ◌≤◌, ◌↔◌, ◌⊎◌, length, map, take, drop, IsErr, IfOk, IfErr, IfSome};
+    ghost use Rattle.sp_text.specs.TokenAt.{IsFirstToken, BeginsNoToken, HasNoToken, past_blanks, tokens_by, seen_token};
     ghost use Rattle.sp_text.specs.Tokens.{tokens, says_nothing};
 
     /// The first token at or after `from`: `None` exactly where only blanks or a comment follow, and
@@ -82,7 +82,7 @@ impl<'a> Line<'a> {
         ensures bad_place { IfErr result (λ byte. byte.at ≡ past_blanks self.now.bytes.now from) }
     {
         let bytes = self.bytes;
-        let at = from + blanks_len(after(bytes, from));
+        let at = past_blanks(bytes, from);
         let Some((first, rest)) = after(bytes, at).split_first() else {
             return Ok(None);
         };
@@ -106,27 +106,33 @@ impl<'a> Line<'a> {
         }
     }
 
-    /// Finds the line's first tokens, as many as there is room for: how many, and the place from which the others follow.
+    /// Finds the line's first tokens, as many as there is room for: how many, and the place from which the others follow. Where
+    /// room is left, none does.
     #[inline(never)]
     pub fn first_tokens(&self, room: &mut [Token<'a>]) -> (usize, usize)
         ensures within { result.0 ≤ length room.new }
         ensures place { result.1 ≤ length self.now.bytes.now }
         ensures all { tokens self.now.bytes.now ≡ map seen_token (take result.0 room.new) ++ tokens (drop result.1 self.now.bytes.now) }
+        ensures full { (result.0 ≡ length room.new) ⊎ HasNoToken (drop result.1 self.now.bytes.now) }
     {
+        let bytes = self.bytes;
         let mut count = 0;
         let mut at = 0;
         while count < room.len() {
-            match self.token_at(at) {
-                Ok(Some(token)) => {
-                    room[count] = Token {
-                        kind: token.kind,
-                        bytes: token.bytes,
-                    };
-                    count += 1;
-                    at = token.to;
-                }
-                _ => return (count, at),
-            }
+            let from = past_blanks(bytes, at);
+            let Some((first, rest)) = after(bytes, from).split_first() else {
+                return (count, at);
+            };
+            let Some((kind, len)) = front(*first, rest) else {
+                return (count, at);
+            };
+            let to = from + len;
+            room[count] = Token {
+                kind,
+                bytes: &bytes[from..to],
+            };
+            count += 1;
+            at = to;
         }
         (count, at)
     }

@@ -1,0 +1,52 @@
+use Rattle.std.proofs.Common.{◌≡◌, refl, ap, sym, ◌∙◌, ℕ, ◌+◌, ◌<◌, List, ◌∷◌, ◌++◌, length, take, set, append_assoc, inl, inr, rules, arith}
+use Rattle.std.specs.Prelude.{map}
+use Rattle.std.proofs.lemmas.Grind.{common_steps, take-set_at}
+use Rattle.std.proofs.lemmas.List.{map-append}
+use Rattle.sp_text.specs.TokenAt.{seen_token}
+use Rattle.sp_text.specs.Tokens.{Tok}
+use Rattle.sp_text.specs.declared.tokens.Token.{Token}
+use Rattle.sp_text.proofs.LinePlaces.{starts_at, tokens-here, spelled_here, front-fits, no_comment, no_token, tokens-end}
+use Rattle.sp_text.proofs.lines.Line.first_tokens.Goals as goal
+
+pub returns-in_default-clause-full : goal.returns-in_default-clause-full
+returns-in_default-clause-full c = inr (inl (tokens-end c.args.self.now.bytes.now c.loop-count.at c.past_blanks-from.ensures.place c.after.ensures c.in_default.ensures.cases))
+
+pub returns-in_default-front-clause-full : goal.returns-in_default-front-clause-full
+returns-in_default-front-clause-full c =
+    let s = starts_at c.args.self.now.bytes.now c.loop-count.at c.past_blanks-from.ensures.place c.after.ensures c.in-Some.ensures.cases.0 in
+    inr (no_token s (sym c.in_default-front.ensures))
+
+pub overflow_add-to : goal.overflow_add-to
+overflow_add-to c =
+    let s = starts_at c.args.self.now.bytes.now c.loop-count.at c.past_blanks-from.ensures.place c.after.ensures c.in-Some.ensures.cases.0 in
+    let fits = front-fits _ _ s (sym c.in-Some-front.ensures) in
+    search (rules, fits)
+
+pub slice_bounds-room-end : goal.slice_bounds-room-end
+slice_bounds-room-end c =
+    let s = starts_at c.args.self.now.bytes.now c.loop-count.at c.past_blanks-from.ensures.place c.after.ensures c.in-Some.ensures.cases.0 in
+    let fits = front-fits _ _ s (sym c.in-Some-front.ensures) in
+    search (rules, fits)
+
+pub invariant_of-room : goal.invariant_of-room
+invariant_of-room c =
+    let s = starts_at c.args.self.now.bytes.now c.loop-count.at c.past_blanks-from.ensures.place c.after.ensures c.in-Some.ensures.cases.0 in
+    let spelled = spelled_here _ _ s (sym c.in-Some-front.ensures) in
+    search (rules, spelled)
+
+-- one more token in the room
+one_more : (all ts more : List Tok) (room : List Token) (i : ℕ) (token : Token) → i < length room → all ≡ map seen_token (take i room) ++ ts → ts ≡ seen_token token ∷ more
+    → all ≡ map seen_token (take (i + 1) (set room i token)) ++ more
+one_more all ts more room i token room_left before found =
+    rw (take-set_at room i (i + 1) token refl room_left, map-append, append_assoc) (before ∙ ap (λ ts. map seen_token (take i room) ++ ts) found)
+
+pub loop-count-preserved : goal.loop-count-preserved
+loop-count-preserved c =
+    let s = starts_at c.args.self.now.bytes.now c.loop-count.at c.past_blanks-from.ensures.place c.after.ensures c.in-Some.ensures.cases.0 in
+    let front = sym c.in-Some-front.ensures in
+    let fits = front-fits _ _ s front in
+    record {
+      within = grind (arith, common_steps, c.loop-count-test.true);
+      place = fits.1;
+      all = one_more _ _ _ _ _ _ c.loop-count-test.true c.loop-count.invariant.all (tokens-here _ _ s (no_comment _ _ front) front);
+    }
