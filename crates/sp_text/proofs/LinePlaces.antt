@@ -13,7 +13,7 @@ use Rattle.sp_text.specs.declared.tokens.PlacedToken.{PlacedToken}
 use Rattle.std.proofs.lemmas.Option.{none-some}
 use Rattle.sp_text.proofs.KindLemmas.{front-never}
 use Rattle.sp_text.proofs.Runs.{list_all-prefix}
-use Rattle.sp_text.proofs.TokenLemmas.{front_of-some, front_of-none, kind_of-some, kind_of-none, tokens-after_blanks, after_blanks-first, tokens-nil, tokens-comment, tokens-some, tokens-none}
+use Rattle.sp_text.proofs.TokenLemmas.{front_of-some, front_of-none, kind_of-some, kind_of-none, tokens-after_blanks, after_blanks-first, tokens-nil, tokens-blank, tokens-comment, tokens-some, tokens-none}
 
 -- the first byte from `from` on that is no blank stands at `at`, and these follow it
 pub record StartsAt (line : List ℕ) (from at first : ℕ) (rest : List ℕ) : Type 0 where
@@ -23,6 +23,13 @@ pub record StartsAt (line : List ℕ) (from at first : ℕ) (rest : List ℕ) : 
 -- from what the calls ensure
 pub starts_at : (line : List ℕ) (from : ℕ) {at first : ℕ} {rest later : List ℕ} → at ≡ past_blanks line from → later ≡ drop at line → later ≡ first ∷ rest → StartsAt line from at first rest
 starts_at line from at later first = record { at_is = at; here = sym later ∙ first }
+
+-- where the first byte there is no blank
+pub starts_here : (line : List ℕ) (at : ℕ) {first : ℕ} {rest later : List ℕ} → later ≡ drop at line → later ≡ first ∷ rest → is_blank first ≡ false → StartsAt line at at first rest
+starts_here line at {first} {rest} later is blank = record {
+  at_is = let here : drop at line ≡ first ∷ rest = sym later ∙ is in rw (here, blank) (omega arith);
+  here = sym later ∙ is;
+}
 
 past : {line : List ℕ} {from at first : ℕ} {rest : List ℕ} → StartsAt line from at first rest → after_blanks (drop from line) ≡ first ∷ rest
 past {line} {from} s =
@@ -115,6 +122,19 @@ bad_byte {line} {from} {at} {first} {rest} s comment front = record {
     ]
 
 -- nothing more
+
+pub tokens-past_blank : (line : List ℕ) (at : ℕ) {first : ℕ} {rest later : List ℕ} → later ≡ drop at line → later ≡ first ∷ rest → is_blank first ≡ true → tokens (drop at line) ≡ tokens (drop (at + 1) line)
+tokens-past_blank line at {first} {rest} later is blank =
+    let here : drop at line ≡ first ∷ rest = sym later ∙ is in
+    rw (← drop-drop 1 at line, here) (tokens-blank first rest blank)
+
+pub one_there : (line : List ℕ) (at : ℕ) {first : ℕ} {rest later : List ℕ} → later ≡ drop at line → later ≡ first ∷ rest → at + 1 ≤ length line
+one_there line at {first} {rest} later is =
+    let same : length (drop at line) ≡ length (first ∷ rest) = ap length (sym later ∙ is) in
+    omega (arith, length-drop at line, same)
+
+pub tokens-at_end : (line : List ℕ) (at : ℕ) {later : List ℕ} → later ≡ drop at line → length later ≡ 0 → tokens (drop at line) ≡ []
+tokens-at_end line at {later} is none = ap tokens (sym is ∙ nil_from_length later none) ∙ tokens-nil
 
 pub tokens-end : (line : List ℕ) (from : ℕ) {at : ℕ} {later : List ℕ} → at ≡ past_blanks line from → later ≡ drop at line → length later ≡ 0 → tokens (drop from line) ≡ []
 tokens-end line from {at} {later} at_is past_them none =

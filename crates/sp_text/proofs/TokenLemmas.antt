@@ -119,6 +119,10 @@ pub tokens-nil : tokens [] ≡ []
 unfolding tokens tokens_after
 tokens-nil = refl
 
+pub tokens-blank : (b : ℕ) (bs : List ℕ) → is_blank b ≡ true → tokens (b ∷ bs) ≡ tokens bs
+unfolding tokens tokens_after
+tokens-blank b bs blank = simp blank
+
 pub tokens-comment : (bs : List ℕ) → tokens (semicolon ∷ bs) ≡ []
 unfolding tokens tokens_after
 tokens-comment bs = refl

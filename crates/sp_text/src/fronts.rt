@@ -15,10 +15,15 @@ use memchr::memchr;
 pub(crate) fn front(first: u8, rest: &[u8]) -> Option<(Kind, usize)>
     ensures { result ≡ front_of (first ∷ rest.now) }
 {
-    match FIRST_BYTES[first as usize] {
-        b',' => Some((Kind::Punct, 1)),
-        b'a' => Some((Kind::Word, 1 + word_len(rest))),
-        b'0' => Some((Kind::Number, 1 + digits_len(rest))),
+    // marks and words are most of the tokens
+    let class = FIRST_BYTES[first as usize];
+    if class == b',' {
+        return Some((Kind::Punct, 1));
+    }
+    if class == b'a' {
+        return Some((Kind::Word, 1 + word_len(rest)));
+    }
+    match first {
         b'%' => Some((Kind::Local, 1 + name_front(rest)?)),
         b'@' => Some((Kind::Global, 1 + name_front(rest)?)),
         b'-' => Some((Kind::Number, 1 + digits_front(rest)?)),
@@ -26,6 +31,7 @@ pub(crate) fn front(first: u8, rest: &[u8]) -> Option<(Kind, usize)>
         b'"' => Some((Kind::Quoted, 1 + quote_front(rest)?)),
         b'!' => Some((Kind::Bang, 1 + bang_front(rest)?)),
         b'.' => Some((Kind::Word, 1 + ellipsis_front(rest)?)),
+        _ if first.is_ascii_digit() => Some((Kind::Number, 1 + digits_len(rest))),
         _ => None,
     }
 }
@@ -134,7 +140,35 @@ fn digits_len(bytes: &[u8]) -> usize
 }
 
 // How many bytes stand first that a word may have after its first.
+#[inline(always)]
 fn word_len(bytes: &[u8]) -> usize
+    ensures len { result ≡ prefix_len in_word bytes.now }
+    ensures within { result ≤ length bytes.now }
+{
+    let mut len = 0;
+    let mut rest = bytes;
+    // one look at what is left for four bytes
+    while let [a, b, c, d, more @ ..] = rest {
+        if !is_in_word(*a) {
+            return len;
+        }
+        if !is_in_word(*b) {
+            return len + 1;
+        }
+        if !is_in_word(*c) {
+            return len + 2;
+        }
+        if !is_in_word(*d) {
+            return len + 3;
+        }
+        len += 4;
+        rest = more;
+    }
+    len + word_len_by_one(rest)
+}
+
+// The same, where few bytes are left.
+fn word_len_by_one(bytes: &[u8]) -> usize
     ensures len { result ≡ prefix_len in_word bytes.now }
     ensures within { result ≤ length bytes.now }
 {
@@ -142,7 +176,35 @@ fn word_len(bytes: &[u8]) -> usize
 }
 
 // How many bytes stand first that a name may have after its first.
+#[inline(always)]
 fn name_len(bytes: &[u8]) -> usize
+    ensures len { result ≡ prefix_len in_name bytes.now }
+    ensures within { result ≤ length bytes.now }
+{
+    let mut len = 0;
+    let mut rest = bytes;
+    // one look at what is left for four bytes
+    while let [a, b, c, d, more @ ..] = rest {
+        if !is_in_name(*a) {
+            return len;
+        }
+        if !is_in_name(*b) {
+            return len + 1;
+        }
+        if !is_in_name(*c) {
+            return len + 2;
+        }
+        if !is_in_name(*d) {
+            return len + 3;
+        }
+        len += 4;
+        rest = more;
+    }
+    len + name_len_by_one(rest)
+}
+
+// The same, where few bytes are left.
+fn name_len_by_one(bytes: &[u8]) -> usize
     ensures len { result ≡ prefix_len in_name bytes.now }
     ensures within { result ≤ length bytes.now }
 {

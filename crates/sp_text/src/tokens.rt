@@ -1,6 +1,7 @@
 ghost use Rattle.std.specs.Prelude.{IsTrue};
 ghost use Rattle.sp_text.specs.Tokens.{is_token};
 
+use crate::bytes::is_blank;
 use crate::fronts::{after, front, past_blanks};
 use crate::lines::Line;
 use std::error::Error;
@@ -119,17 +120,20 @@ impl<'a> Line<'a> {
         let mut count = 0;
         let mut at = 0;
         while count < room.len() {
-            let from = past_blanks(bytes, at);
-            let Some((first, rest)) = after(bytes, from).split_first() else {
+            let Some((first, rest)) = after(bytes, at).split_first() else {
                 return (count, at);
             };
+            if is_blank(*first) {
+                at += 1;
+                continue;
+            }
             let Some((kind, len)) = front(*first, rest) else {
                 return (count, at);
             };
-            let to = from + len;
+            let to = at + len;
             room[count] = Token {
                 kind,
-                bytes: &bytes[from..to],
+                bytes: &bytes[at..to],
             };
             count += 1;
             at = to;

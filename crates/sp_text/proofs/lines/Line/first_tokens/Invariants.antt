@@ -12,4 +12,4 @@ invariant-loop-count l = record {
 }
 
 abbrev pub decreases-loop-count : goal.decreases-loop-count
-decreases-loop-count l = length l.room - l.count
+decreases-loop-count l = length l.self.bytes.now - l.at

@@ -1,0 +1,13 @@
+use Rattle.std.proofs.Common.{◌≡◌, ◌+◌, length}
+use Rattle.std.specs.List.{prefix_len}
+use Rattle.sp_text.specs.Bytes.{in_name}
+use Rattle.sp_text.proofs.fronts.name_len.Given as goal
+
+abbrev pub invariant-loop-rest : goal.invariant-loop-rest
+invariant-loop-rest l = record {
+  passed : l.len + length l.rest ≡ length l.bytes;
+  run : l.len + prefix_len in_name l.rest ≡ prefix_len in_name l.bytes;
+}
+
+abbrev pub decreases-loop-rest : goal.decreases-loop-rest
+decreases-loop-rest l = length l.rest
