@@ -37,6 +37,7 @@ pub(crate) fn front(first: u8, rest: &[u8]) -> Option<(Kind, usize)>
 }
 
 // A name or a number without leading zeros.
+#[inline(always)]
 pub(crate) fn name_front(bytes: &[u8]) -> Option<usize>
     ensures { MatchOption result (HasNoFront is_name bytes.now) (IsLongestFront is_name bytes.now) }
 {
