@@ -261,14 +261,14 @@ unfolding one_at first_global
 function_first text [] x rest e = absurd cc
 function_first text (t ∷ ts) x rest e = this_named (global_of t) (first_global ts) text (chosen_is (is_global text t) ts rest x e)
 
-family_named : (o more : Option (List ℕ)) → is_family o ≡ true → (n : List ℕ) × (or_else o more ≡ Some n) × (is_family_name n ≡ true)
-family_named None more e = absurd cc
-family_named (Some n) more e = (n, refl, e)
+told_family : (o more : Option (List ℕ)) → is_family o ≡ true → (n : List ℕ) × (or_else o more ≡ Some n) × (is_family_name n ≡ true)
+told_family None more e = absurd cc
+told_family (Some n) more e = (n, refl, e)
 
 family_first : (ts : List Tok) (x : Unit {0}) (rest : List Tok) → one_at (stands declares_family) ts ≡ Some (x, rest) → (n : List ℕ) × (first_global ts ≡ Some n) × (is_family_name n ≡ true)
 unfolding one_at first_global
 family_first [] x rest e = absurd cc
-family_first (t ∷ ts) x rest e = family_named (global_of t) (first_global ts) (chosen_is (declares_family t) ts rest x e)
+family_first (t ∷ ts) x rest e = told_family (global_of t) (first_global ts) (chosen_is (declares_family t) ts rest x e)
 
 called_first : (ts : List Tok) (call : List ℕ × List Given) (rest : List Tok) → called_at ts ≡ Some (call, rest) → first_global ts ≡ Some call.0
 unfolding called_at
