@@ -61,6 +61,7 @@ impl<'t, 'a> Cursor<'t, 'a> {
     }
 
     /// Whether this mark stands there.
+    #[inline(always)]
     pub fn begins_mark(&self, text: &[u8]) -> bool
         ensures { result ≡ begins (is_mark text.now) self.now }
     {
