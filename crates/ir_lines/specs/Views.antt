@@ -22,7 +22,7 @@ abbrev pub seen_guarded : StatepointCall → Guarded
 seen_guarded c = record {
   id = c.id;
   signature = record { answer = c.function_type.answer; parameters = c.function_type.parameters.items };
-  callee = c.callee.now;
+  callee = c.callee.bytes.now;
   count = c.count;
   passed = map seen_passed c.passed.items;
 }

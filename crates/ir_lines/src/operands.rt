@@ -67,7 +67,7 @@ impl Local<'_> {
         ensures { result ≡ operand_in self.now.values ty (seen_value value.now) }
     {
         match value {
-            Value::Local(name) => Operand::Value(ValueId(self.values.number(name))),
+            Value::Local(name) => Operand::Value(ValueId(self.values.number(name.bytes))),
             Value::Number(literal) => Operand::Int(wrapped(width_of(ty), *literal)),
             Value::Truth(is_true) => Operand::Int(u64::from(*is_true)),
             Value::Null => Operand::Null,

@@ -14,23 +14,23 @@ pub fn given<'a>(reading: &Reading<'a>) -> Option<(&'a [u8], TypeWord)>
     ensures { option_map (λ one. (one.0.now, one.1)) result ≡ gives (said reading.now) }
 {
     match reading {
-        Reading::Binary { result, width, .. } => Some((*result, TypeWord::Int(*width))),
-        Reading::Compare { result, .. } => Some((*result, TypeWord::Int(1))),
-        Reading::Convert { result, to, .. } => Some((*result, TypeWord::Int(*to))),
+        Reading::Binary { result, width, .. } => Some((result.bytes, TypeWord::Int(*width))),
+        Reading::Compare { result, .. } => Some((result.bytes, TypeWord::Int(1))),
+        Reading::Convert { result, to, .. } => Some((result.bytes, TypeWord::Int(*to))),
         Reading::Select {
             result,
             left_ty,
             ..
-        } => Some((*result, *left_ty)),
-        Reading::Phi { result, ty, .. } => Some((*result, *ty)),
-        Reading::ScalarElement { result, .. } => Some((*result, TypeWord::Managed)),
-        Reading::LayoutElement { result, .. } => Some((*result, TypeWord::Managed)),
-        Reading::Load { result, ty, .. } => Some((*result, *ty)),
-        Reading::ValueCall { result, answer, .. } => Some((*result, *answer)),
-        Reading::Cast { result, to, .. } => Some((*result, *to)),
-        Reading::Statepoint { result, .. } => Some((*result, TOKEN)),
-        Reading::GcResult { result, answer, .. } => Some((*result, *answer)),
-        Reading::GcRelocate { result, .. } => Some((*result, TypeWord::Managed)),
+        } => Some((result.bytes, *left_ty)),
+        Reading::Phi { result, ty, .. } => Some((result.bytes, *ty)),
+        Reading::ScalarElement { result, .. } => Some((result.bytes, TypeWord::Managed)),
+        Reading::LayoutElement { result, .. } => Some((result.bytes, TypeWord::Managed)),
+        Reading::Load { result, ty, .. } => Some((result.bytes, *ty)),
+        Reading::ValueCall { result, answer, .. } => Some((result.bytes, *answer)),
+        Reading::Cast { result, to, .. } => Some((result.bytes, *to)),
+        Reading::Statepoint { result, .. } => Some((result.bytes, TOKEN)),
+        Reading::GcResult { result, answer, .. } => Some((result.bytes, *answer)),
+        Reading::GcRelocate { result, .. } => Some((result.bytes, TypeWord::Managed)),
         _ => None,
     }
 }

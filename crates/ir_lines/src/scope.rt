@@ -46,7 +46,7 @@ fn layout_of<'t, 'a>(line: &'t NumberedReading<'a>) -> Option<(&'a [u8], &'t [Ty
         ≡ layout_said line.now.line (said line.now.reading) }
 {
     match &line.reading {
-        Reading::Layout { name, fields } => Some((*name, fields.as_slice())),
+        Reading::Layout { name, fields } => Some((name.bytes, fields.as_slice())),
         _ => None,
     }
 }
@@ -63,7 +63,7 @@ pub fn head_of<'t, 'a>(line: &'t NumberedReading<'a>) -> Option<Head<'t, 'a>>
         } => Some(Head {
             line: line.line,
             defined: false,
-            name,
+            name: name.bytes,
             answer: *answer,
             parameters: parameters.as_slice(),
         }),
@@ -75,7 +75,7 @@ pub fn head_of<'t, 'a>(line: &'t NumberedReading<'a>) -> Option<Head<'t, 'a>>
         } => Some(Head {
             line: line.line,
             defined: true,
-            name,
+            name: name.bytes,
             answer: *answer,
             parameters: arguments.as_slice(),
         }),

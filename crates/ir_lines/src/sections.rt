@@ -40,7 +40,7 @@ fn label_of<'a>(reading: &Reading<'a>) -> Option<&'a [u8]>
     ensures { option_copied result ≡ label_said (said reading.now) }
 {
     match reading {
-        Reading::Label { name } => Some(*name),
+        Reading::Label { name } => Some(name.bytes),
         _ => None,
     }
 }
@@ -101,7 +101,7 @@ fn definition_at<'t, 'a>(
         } => Some(Definition {
             line: line.line,
             answer: *answer,
-            name,
+            name: name.bytes,
             arguments: arguments.as_slice(),
             strategy: *strategy,
             body: body_of(after),
@@ -148,7 +148,7 @@ fn is_numbered(argument: &Argument) -> bool
     ensures { result ≡ is_numbered (seen_argument argument.now).name }
 {
     match argument.name {
-        Some(name) => is_number(name),
+        Some(name) => is_number(name.bytes),
         None => true,
     }
 }
@@ -171,7 +171,7 @@ fn argument_name(alloc: Global, argument: &Argument, numbered: usize) -> Result<
     ensures { IfOk result (λ name. name.items ≡ unwrap_or (seen_argument argument.now).name (decimal numbered)) }
 {
     match argument.name {
-        Some(name) => Vec::from_slice(alloc, name),
+        Some(name) => Vec::from_slice(alloc, name.bytes),
         None => decimal(alloc, numbered),
     }
 }

@@ -21,4 +21,5 @@ pub use line_parts::{
 };
 pub use line_tokens::{Binary, Cast, Conversion, Literal};
 pub use raw::{NumberedReading, Raw};
+pub use sp_text::Name;
 pub use text::{read, read_rewritten};

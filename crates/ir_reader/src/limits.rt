@@ -169,7 +169,7 @@ pub fn reading_fits(reading: &Reading) -> bool
     ensures { result ≡ said_fits (seen reading.now) }
 {
     match reading {
-        Reading::Layout { name, fields } => name_fits(name) && fields_fit(fields.as_slice()),
+        Reading::Layout { name, fields } => name_fits(name.bytes) && fields_fit(fields.as_slice()),
         Reading::Declare {
             answer,
             parameters,
@@ -180,7 +180,7 @@ pub fn reading_fits(reading: &Reading) -> bool
             name,
             arguments,
             ..
-        } => type_fits(*answer) && head_fits(name, arguments.as_slice()),
+        } => type_fits(*answer) && head_fits(name.bytes, arguments.as_slice()),
         Reading::Phi { ty, entries, .. } => { type_fits(*ty) && entries_fit(entries.as_slice()) }
         Reading::ValueCall { answer, passed, .. } => {
             type_fits(*answer) && passed_fit(passed.as_slice())

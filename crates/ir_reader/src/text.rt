@@ -19,7 +19,7 @@ const TOKENS_AT_ONCE: usize = 256;
 
 const NO_TOKEN: Token<'static> = Token {
     kind: Kind::Word,
-    bytes: b"",
+    bytes: b"a",
 };
 
 impl State {

@@ -20,16 +20,16 @@ use Rattle.line_forms.specs.declared.forms.DroppedLine.TheVariants as drop_lines
 use Rattle.line_forms.specs.declared.forms.Form.{Form}
 use Rattle.line_forms.specs.declared.forms.Form.TheVariants as forms
 use Rattle.line_parts.specs.Gives.{Found, after, one_at, with_rest}
-use Rattle.line_tokens.specs.Marks.{is_word, is_quoted, is_hash, is_global, stands, begins}
+use Rattle.line_tokens.specs.Marks.{is_word, is_quoted, is_hash, global_of, is_this, is_global, stands, begins}
 use Rattle.line_tokens.specs.Numbers.{width_of, decimal}
 use Rattle.line_parts.specs.Drops.{past, past_all}
 use Rattle.line_tokens.specs.Families.{statepoint_name, relocate_name, result_front, result_suffix, is_suffix, is_result_name, is_family_name, is_result_of, ends_in}
 use Rattle.line_parts.specs.Parts.{word_at, mark_at, local_at, global_at, value_at, case_value_at, addrspace_at, pointer_at, spelled_type_at, type_behind, allowed_type_at, is_value_type, is_answer_type, is_cast_type, is_scalar_type, is_managed, place_at, strategy_at, to_brace_at}
 use Rattle.line_tokens.specs.Words.{pred_of}
 use Rattle.line_parts.specs.Lists.{Named, Given, fields_at, entries_at, head_at, called_at, arguments_at, all_passed_at, is_task_start}
-use Rattle.line_parts.specs.Groups.{number_at, zero_at, token_at, types_at, handed_at, closing_at, live_at, result_at, named_result, suffix_of, declares_family, family_answer_at, bracketing_at}
+use Rattle.line_parts.specs.Groups.{number_at, zero_at, token_at, types_at, handed_at, closing_at, live_at, result_at, named_result, suffix_of, is_family, declares_family, family_answer_at, bracketing_at}
 use Rattle.line_forms.specs.Slots.{Slot, Item, says, says_nothing, part, parse, blank, m, w, g, dropped, a_managed, a_quoted, a_hash, to_brace, a_local, a_layout_name, a_width, a_type, an_answer, a_cast_type, a_value, a_case, a_pred, a_scalar, a_layout, a_place, some_fields, some_entries, a_declared, a_defined, a_called, a_strategy, a_zero, a_closing, a_family_answer, a_family, a_bracketing, a_token, a_global, some_types, some_handed, some_live, a_result, a_number, name, layout_name, width, ty, value, pred, scalar, layout, place, fields, entries, declared, defined, called, strategy, types as types_said, handed, live, literal, family_answer}
-use Rattle.line_forms.specs.Forms.{slots, agree, fit, first_types, last_types, form_of, first_global, callee_of, declared_of, behind_result, called_form, declared_form, group_form, form_in, is_group_form, names_family, stands_in}
+use Rattle.line_forms.specs.Forms.{slots, agree, fit, or_else, first_types, last_types, form_of, first_global, callee_of, declared_of, behind_result, called_form, declared_form, group_form, form_in, is_group_form, names_family, stands_in}
 use Rattle.line_forms.proofs.Openings.{told, rest_is, said_is, word_found, mark_found, local_found, like, opens, found_is}
 
 -- ---- a part, and what follows it
@@ -239,28 +239,36 @@ says_is {A = A} item found here rest e =
     }
 
 -- a function's token
+first_named : (o more : Option (List ℕ)) (ts : List Tok) (found : List ℕ) (rest : List Tok) → with_rest ts o ≡ Some (found, rest) → or_else o more ≡ Some found
+first_named None more ts found rest e = absurd cc
+first_named (Some n) more ts found rest e = ap (λ (n : List ℕ). Some n) (said_is (n, ts) (found, rest) e)
+
 global_first : (ts : List Tok) (found : List ℕ) (rest : List Tok) → global_at ts ≡ Some (found, rest) → first_global ts ≡ Some found
 unfolding one_at first_global
 global_first [] found rest e = absurd cc
-global_first (tok kinds.Global bytes ∷ ts) found rest e = ap (λ (n : List ℕ). Some n) (said_is (drop 1 bytes, ts) (found, rest) e)
-global_first (t ∷ ts) found rest e = absurd cc
+global_first (t ∷ ts) found rest e = first_named (global_of t) (first_global ts) ts found rest e
 
 chosen_is : (b : Bool) (ts rest : List Tok) (x : Unit {0}) → with_rest ts (cond b (Some tt) None) ≡ Some (x, rest) → b ≡ true
 chosen_is true ts rest x e = refl
 chosen_is false ts rest x e = absurd cc
 
+this_named : (o more : Option (List ℕ)) (text : List ℕ) → is_this text o ≡ true → or_else o more ≡ Some text
+this_named None more text e = absurd cc
+this_named (Some n) more text e = ap (λ (n : List ℕ). Some n) ((bytes_eq-Decides n text).0 e)
+
 function_first : (text : List ℕ) (ts : List Tok) (x : Unit {0}) (rest : List Tok) → one_at (stands (is_global text)) ts ≡ Some (x, rest) → first_global ts ≡ Some text
 unfolding one_at first_global
 function_first text [] x rest e = absurd cc
-function_first text (tok kinds.Global bytes ∷ ts) x rest e =
-    ap (λ (n : List ℕ). Some n) ((bytes_eq-Decides (drop 1 bytes) text).0 (chosen_is (bytes_eq (drop 1 bytes) text) ts rest x e))
-function_first text (t ∷ ts) x rest e = absurd cc
+function_first text (t ∷ ts) x rest e = this_named (global_of t) (first_global ts) text (chosen_is (is_global text t) ts rest x e)
+
+told_family : (o more : Option (List ℕ)) → is_family o ≡ true → (n : List ℕ) × (or_else o more ≡ Some n) × (is_family_name n ≡ true)
+told_family None more e = absurd cc
+told_family (Some n) more e = (n, refl, e)
 
 family_first : (ts : List Tok) (x : Unit {0}) (rest : List Tok) → one_at (stands declares_family) ts ≡ Some (x, rest) → (n : List ℕ) × (first_global ts ≡ Some n) × (is_family_name n ≡ true)
 unfolding one_at first_global
 family_first [] x rest e = absurd cc
-family_first (tok kinds.Global bytes ∷ ts) x rest e = (drop 1 bytes, refl, chosen_is (is_family_name (drop 1 bytes)) ts rest x e)
-family_first (t ∷ ts) x rest e = absurd cc
+family_first (t ∷ ts) x rest e = told_family (global_of t) (first_global ts) (chosen_is (declares_family t) ts rest x e)
 
 called_first : (ts : List Tok) (call : List ℕ × List Given) (rest : List Tok) → called_at ts ≡ Some (call, rest) → first_global ts ≡ Some call.0
 unfolding called_at

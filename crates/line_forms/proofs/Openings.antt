@@ -1,10 +1,10 @@
 -- A line that fits a form begins as that form does: so no other form fits it.
 use Rattle.std.proofs.Common.{◌≡◌, ℕ, Bool, true, false, cond, ◌&&◌, ◌||◌, eqb, List, [], ◌∷◌, ◌++◌, Option, Some, None, refl, sym, ap, subst, ◌∙◌}
-use Rattle.std.specs.Prelude.{codes, is_some}
+use Rattle.std.specs.Prelude.{codes, drop, is_some}
 use Rattle.std.specs.Str.{bytes_eq}
 use Rattle.std.proofs.lemmas.Slice.Eq.{bytes_eq-Decides}
 use Rattle.std.proofs.lemmas.Bool.{eqb-true}
-use Rattle.sp_text.specs.Tokens.{Tok, tok, is_numeral}
+use Rattle.sp_text.specs.Tokens.{Tok, tok, is_name, is_numeral}
 use Rattle.sp_text.specs.declared.tokens.Kind.TheVariants as kinds
 use Rattle.line_tokens.specs.declared.words.Binary.{Binary}
 use Rattle.line_tokens.specs.declared.words.Binary.TheVariants as ops
@@ -23,7 +23,7 @@ use Rattle.line_tokens.specs.Marks.{is_word, is_local, begins}
 use Rattle.line_tokens.specs.Numbers.{width_of}
 use Rattle.line_parts.specs.Drops.{past_all, past_dropped, is_one_of, flag_words}
 use Rattle.line_parts.specs.Parts.{spelled_type_at, allowed_type_at}
-use Rattle.line_forms.specs.Slots.{Slot, Item, blank, m, w, dropped, a_local, a_layout_name, a_layout, a_width, a_scalar, a_type, part, parse}
+use Rattle.line_forms.specs.Slots.{Slot, Item, name, layout_name, blank, m, w, dropped, a_local, a_layout_name, a_layout, a_width, a_scalar, a_type, part, parse}
 use Rattle.line_forms.specs.Forms.{slots, named_form, result_form, word_form, form_of}
 use Rattle.line_tokens.specs.Words.{binary_word, conversion_word, cast_word}
 use Rattle.line_parts.proofs.Dropping.{past_all-none}
@@ -94,16 +94,24 @@ mark_found text (tok kinds.Punct bytes ∷ ts) here rest e = mark_is text bytes 
 mark_found text (t ∷ ts) here rest e = absurd cc
 
 -- a name begins with a local
+named_rest : (item : List ℕ → Item) (n : List ℕ) (ts : List Tok) (here : List Item) (rest : List Tok) (b : Bool)
+    → after (with_rest ts (cond b (Some n) None)) (λ (x : List ℕ) (r : List Tok). Some (item x ∷ [], r)) ≡ Some (here, rest) → ts ≡ rest
+unfolding after
+named_rest item n ts here rest true e = rest_is (item n ∷ [], ts) (here, rest) e
+named_rest item n ts here rest false e = absurd cc
+
 pub local_found : (ts : List Tok) (here : List Item) (rest : List Tok) → part a_local ts ≡ Some (here, rest) → (bytes : List ℕ) × (ts ≡ tok kinds.Local bytes ∷ rest)
 unfolding part after one_at
 local_found [] here rest e = absurd cc
-local_found (tok kinds.Local bytes ∷ ts) here rest e = let same_rest : ts ≡ rest = rest_is (_, ts) (here, rest) e in (bytes, rw same_rest refl)
+local_found (tok kinds.Local bytes ∷ ts) here rest e =
+    let same_rest : ts ≡ rest = named_rest name (drop 1 bytes) ts here rest (is_name (drop 1 bytes)) e in (bytes, rw same_rest refl)
 local_found (t ∷ ts) here rest e = absurd cc
 
 layout_name_found : (ts : List Tok) (here : List Item) (rest : List Tok) → part a_layout_name ts ≡ Some (here, rest) → (bytes : List ℕ) × (ts ≡ tok kinds.Local bytes ∷ rest)
 unfolding part after one_at
 layout_name_found [] here rest e = absurd cc
-layout_name_found (tok kinds.Local bytes ∷ ts) here rest e = let same_rest : ts ≡ rest = rest_is (_, ts) (here, rest) e in (bytes, rw same_rest refl)
+layout_name_found (tok kinds.Local bytes ∷ ts) here rest e =
+    let same_rest : ts ≡ rest = named_rest layout_name (drop 1 bytes) ts here rest (is_name (drop 1 bytes)) e in (bytes, rw same_rest refl)
 layout_name_found (t ∷ ts) here rest e = absurd cc
 
 layout_found : (ts : List Tok) (here : List Item) (rest : List Tok) → part a_layout ts ≡ Some (here, rest) → begins is_local ts ≡ true

@@ -6,7 +6,7 @@ use Rattle.sp_text.specs.Tokens.{Tok, tok}
 use Rattle.sp_text.specs.declared.tokens.Kind.TheVariants as kinds
 use Rattle.line_forms.specs.declared.forms.Form.{Form}
 use Rattle.line_forms.specs.declared.forms.Form.TheVariants as forms
-use Rattle.line_tokens.specs.Marks.{is_mark}
+use Rattle.line_tokens.specs.Marks.{is_mark, local_of}
 use Rattle.line_tokens.specs.Words.{binary_word, conversion_word, cast_word}
 use Rattle.line_parts.specs.Gives.{Found, after, one_at}
 use Rattle.line_forms.specs.Slots.{Slot, Item, blank, m, w, a_local, name, part, parse}
@@ -23,28 +23,28 @@ abbrev operator_tokens : List ℕ → Tok → List ℕ → List Tok → List Tok
 operator_tokens x equals word ts = tok kinds.Local x ∷ equals ∷ tok kinds.Word word ∷ ts
 
 -- where the slots of a form are these, and the word is its own
-behind_slots : (form : Form) (also : List ℕ) (f : List Slot) (word x : List ℕ) (equals : Tok) (ts : List Tok) (found : Found (List Item))
-    → parse f ts ≡ found → ((said : List Item) → agree form said ≡ true) → slots form ≡ operator_slots also f → is_mark (codes "=") equals ≡ true → bytes_eq word also ≡ true
-    → line_at form (operator_tokens x equals word ts) ≡ behind_operator form (drop 1 x) ts
+behind_slots : (form : Form) (also : List ℕ) (f : List Slot) (word x n : List ℕ) (equals : Tok) (ts : List Tok) (found : Found (List Item))
+    → Some n ≡ local_of (tok kinds.Local x) → parse f ts ≡ found → ((said : List Item) → agree form said ≡ true) → slots form ≡ operator_slots also f → is_mark (codes "=") equals ≡ true → bytes_eq word also ≡ true
+    → line_at form (operator_tokens x equals word ts) ≡ behind_operator form n ts
 unfolding line_at fit parse part after one_at
-behind_slots form also f word x equals ts None e alike is mark same = rw (is, mark, same, e) refl
-behind_slots form also f word x equals ts (Some (items, end)) e alike is mark same = rw (is, mark, same, e, alike (name (drop 1 x) ∷ items)) refl
+behind_slots form also f word x n equals ts None named e alike is mark same = rw (is, ← named, mark, same, e) refl
+behind_slots form also f word x n equals ts (Some (items, end)) named e alike is mark same = rw (is, ← named, mark, same, e, alike (name n ∷ items)) refl
 
 abbrev operands : Form → List Slot
 operands form = drop 5 (slots form)
 
-pub line_behind : (form : Form) (word x : List ℕ) (equals : Tok) (ts : List Tok) → is_mark (codes "=") equals ≡ true → is_operator form word ≡ true
-    → line_at form (operator_tokens x equals word ts) ≡ behind_operator form (drop 1 x) ts
-line_behind (forms.Binary op) word x equals ts mark is = behind_slots (forms.Binary op) (binary_word op) (operands (forms.Binary op)) word x equals ts _ refl (λ said. refl) refl mark is
-line_behind (forms.Convert op) word x equals ts mark is = behind_slots (forms.Convert op) (conversion_word op) (operands (forms.Convert op)) word x equals ts _ refl (λ said. refl) refl mark is
-line_behind (forms.Cast op) word x equals ts mark is = behind_slots (forms.Cast op) (cast_word op) (operands (forms.Cast op)) word x equals ts _ refl (λ said. refl) refl mark is
-line_behind forms.Compare word x equals ts mark is = behind_slots forms.Compare (codes "icmp") (operands forms.Compare) word x equals ts _ refl (λ said. refl) refl mark is
-line_behind forms.Select word x equals ts mark is = behind_slots forms.Select (codes "select") (operands forms.Select) word x equals ts _ refl (λ said. refl) refl mark is
-line_behind forms.Phi word x equals ts mark is = behind_slots forms.Phi (codes "phi") (operands forms.Phi) word x equals ts _ refl (λ said. refl) refl mark is
-line_behind forms.ScalarElement word x equals ts mark is = behind_slots forms.ScalarElement (codes "getelementptr") (operands forms.ScalarElement) word x equals ts _ refl (λ said. refl) refl mark is
-line_behind forms.LayoutElement word x equals ts mark is = behind_slots forms.LayoutElement (codes "getelementptr") (operands forms.LayoutElement) word x equals ts _ refl (λ said. refl) refl mark is
-line_behind forms.Load word x equals ts mark is = behind_slots forms.Load (codes "load") (operands forms.Load) word x equals ts _ refl (λ said. refl) refl mark is
-line_behind form word x equals ts mark is = cc
+pub line_behind : (form : Form) (word x n : List ℕ) (equals : Tok) (ts : List Tok) → Some n ≡ local_of (tok kinds.Local x) → is_mark (codes "=") equals ≡ true → is_operator form word ≡ true
+    → line_at form (operator_tokens x equals word ts) ≡ behind_operator form n ts
+line_behind (forms.Binary op) word x n equals ts named mark is = behind_slots (forms.Binary op) (binary_word op) (operands (forms.Binary op)) word x n equals ts _ named refl (λ said. refl) refl mark is
+line_behind (forms.Convert op) word x n equals ts named mark is = behind_slots (forms.Convert op) (conversion_word op) (operands (forms.Convert op)) word x n equals ts _ named refl (λ said. refl) refl mark is
+line_behind (forms.Cast op) word x n equals ts named mark is = behind_slots (forms.Cast op) (cast_word op) (operands (forms.Cast op)) word x n equals ts _ named refl (λ said. refl) refl mark is
+line_behind forms.Compare word x n equals ts named mark is = behind_slots forms.Compare (codes "icmp") (operands forms.Compare) word x n equals ts _ named refl (λ said. refl) refl mark is
+line_behind forms.Select word x n equals ts named mark is = behind_slots forms.Select (codes "select") (operands forms.Select) word x n equals ts _ named refl (λ said. refl) refl mark is
+line_behind forms.Phi word x n equals ts named mark is = behind_slots forms.Phi (codes "phi") (operands forms.Phi) word x n equals ts _ named refl (λ said. refl) refl mark is
+line_behind forms.ScalarElement word x n equals ts named mark is = behind_slots forms.ScalarElement (codes "getelementptr") (operands forms.ScalarElement) word x n equals ts _ named refl (λ said. refl) refl mark is
+line_behind forms.LayoutElement word x n equals ts named mark is = behind_slots forms.LayoutElement (codes "getelementptr") (operands forms.LayoutElement) word x n equals ts _ named refl (λ said. refl) refl mark is
+line_behind forms.Load word x n equals ts named mark is = behind_slots forms.Load (codes "load") (operands forms.Load) word x n equals ts _ named refl (λ said. refl) refl mark is
+line_behind form word x n equals ts named mark is = cc
 
 -- an operator's line is the same in the rewritten form
 group_same : (form : Form) (ts : List Tok) → is_operator_form form ≡ true → group_form ts form ≡ Some form

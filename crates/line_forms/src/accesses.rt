@@ -8,11 +8,12 @@ use crate::forms::Form;
 use crate::readings::Reading;
 use line_parts::{Cursor, Stop};
 use line_tokens::{Dropped, Flags};
+use sp_text::Name;
 use std::alloc::Global;
 
 #[inline(never)]
-pub fn scalar_element<'a>(cursor: &mut Cursor<'_, 'a>, name: &'a [u8]) -> Result<Reading<'a>, Stop>
-    ensures { Gives seen result cursor.new (behind_operator Form.ScalarElement name.now cursor.old) }
+pub fn scalar_element<'a>(cursor: &mut Cursor<'_, 'a>, name: Name<'a>) -> Result<Reading<'a>, Stop>
+    ensures { Gives seen result cursor.new (behind_operator Form.ScalarElement name.bytes.now cursor.old) }
 {
     cursor.skip(Dropped::Words(Flags::Bounds));
     let element = cursor.scalar_type()?;
@@ -33,8 +34,8 @@ pub fn scalar_element<'a>(cursor: &mut Cursor<'_, 'a>, name: &'a [u8]) -> Result
 }
 
 #[inline(never)]
-pub fn layout_element<'a>(cursor: &mut Cursor<'_, 'a>, name: &'a [u8]) -> Result<Reading<'a>, Stop>
-    ensures { Gives seen result cursor.new (behind_operator Form.LayoutElement name.now cursor.old) }
+pub fn layout_element<'a>(cursor: &mut Cursor<'_, 'a>, name: Name<'a>) -> Result<Reading<'a>, Stop>
+    ensures { Gives seen result cursor.new (behind_operator Form.LayoutElement name.bytes.now cursor.old) }
 {
     cursor.skip(Dropped::Words(Flags::Bounds));
     let layout = cursor.local()?;
@@ -57,8 +58,8 @@ pub fn layout_element<'a>(cursor: &mut Cursor<'_, 'a>, name: &'a [u8]) -> Result
 }
 
 #[inline(never)]
-pub fn load<'a>(cursor: &mut Cursor<'_, 'a>, name: &'a [u8]) -> Result<Reading<'a>, Stop>
-    ensures { Gives seen result cursor.new (behind_operator Form.Load name.now cursor.old) }
+pub fn load<'a>(cursor: &mut Cursor<'_, 'a>, name: Name<'a>) -> Result<Reading<'a>, Stop>
+    ensures { Gives seen result cursor.new (behind_operator Form.Load name.bytes.now cursor.old) }
 {
     let ty = cursor.value_type()?;
     cursor.mark(b",")?;

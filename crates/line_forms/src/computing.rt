@@ -11,6 +11,7 @@ use crate::forms::Form;
 use crate::readings::Reading;
 use line_parts::{Cursor, Stop};
 use line_tokens::{Binary, Cast, Conversion, Dropped, Flags};
+use sp_text::Name;
 use std::alloc::Global;
 
 fn binary_flags(cursor: &mut Cursor, op: Binary)
@@ -28,10 +29,10 @@ fn conversion_flags(cursor: &mut Cursor, op: Conversion)
 #[inline(never)]
 pub fn binary<'a>(
     cursor: &mut Cursor<'_, 'a>,
-    name: &'a [u8],
+    name: Name<'a>,
     op: Binary,
 ) -> Result<Reading<'a>, Stop>
-    ensures { Gives seen result cursor.new (behind_operator (Form.Binary op) name.now cursor.old) }
+    ensures { Gives seen result cursor.new (behind_operator (Form.Binary op) name.bytes.now cursor.old) }
 {
     binary_flags(cursor, op);
     let width = cursor.width()?;
@@ -49,8 +50,8 @@ pub fn binary<'a>(
 }
 
 #[inline(never)]
-pub fn compare<'a>(cursor: &mut Cursor<'_, 'a>, name: &'a [u8]) -> Result<Reading<'a>, Stop>
-    ensures { Gives seen result cursor.new (behind_operator Form.Compare name.now cursor.old) }
+pub fn compare<'a>(cursor: &mut Cursor<'_, 'a>, name: Name<'a>) -> Result<Reading<'a>, Stop>
+    ensures { Gives seen result cursor.new (behind_operator Form.Compare name.bytes.now cursor.old) }
 {
     cursor.skip(Dropped::Words(Flags::SameSign));
     let pred = cursor.pred()?;
@@ -71,10 +72,10 @@ pub fn compare<'a>(cursor: &mut Cursor<'_, 'a>, name: &'a [u8]) -> Result<Readin
 #[inline(never)]
 pub fn convert<'a>(
     cursor: &mut Cursor<'_, 'a>,
-    name: &'a [u8],
+    name: Name<'a>,
     op: Conversion,
 ) -> Result<Reading<'a>, Stop>
-    ensures { Gives seen result cursor.new (behind_operator (Form.Convert op) name.now cursor.old) }
+    ensures { Gives seen result cursor.new (behind_operator (Form.Convert op) name.bytes.now cursor.old) }
 {
     conversion_flags(cursor, op);
     let width = cursor.width()?;
@@ -92,8 +93,8 @@ pub fn convert<'a>(
 }
 
 #[inline(never)]
-pub fn cast<'a>(cursor: &mut Cursor<'_, 'a>, name: &'a [u8], op: Cast) -> Result<Reading<'a>, Stop>
-    ensures { Gives seen result cursor.new (behind_operator (Form.Cast op) name.now cursor.old) }
+pub fn cast<'a>(cursor: &mut Cursor<'_, 'a>, name: Name<'a>, op: Cast) -> Result<Reading<'a>, Stop>
+    ensures { Gives seen result cursor.new (behind_operator (Form.Cast op) name.bytes.now cursor.old) }
 {
     let from = cursor.cast_type()?;
     let value = cursor.value()?;
@@ -110,8 +111,8 @@ pub fn cast<'a>(cursor: &mut Cursor<'_, 'a>, name: &'a [u8], op: Cast) -> Result
 }
 
 #[inline(never)]
-pub fn select<'a>(cursor: &mut Cursor<'_, 'a>, name: &'a [u8]) -> Result<Reading<'a>, Stop>
-    ensures { Gives seen result cursor.new (behind_operator Form.Select name.now cursor.old) }
+pub fn select<'a>(cursor: &mut Cursor<'_, 'a>, name: Name<'a>) -> Result<Reading<'a>, Stop>
+    ensures { Gives seen result cursor.new (behind_operator Form.Select name.bytes.now cursor.old) }
 {
     cursor.word(b"i1")?;
     let condition = cursor.value()?;
@@ -135,10 +136,10 @@ pub fn select<'a>(cursor: &mut Cursor<'_, 'a>, name: &'a [u8]) -> Result<Reading
 #[inline(never)]
 pub fn phi<'a>(
     cursor: &mut Cursor<'_, 'a>,
-    name: &'a [u8],
+    name: Name<'a>,
     alloc: Global,
 ) -> Result<Reading<'a>, Stop>
-    ensures { Gives seen result cursor.new (behind_operator Form.Phi name.now cursor.old) }
+    ensures { Gives seen result cursor.new (behind_operator Form.Phi name.bytes.now cursor.old) }
 {
     let ty = cursor.value_type()?;
     let entries = cursor.entries(alloc)?;

@@ -14,7 +14,7 @@ fn declares_family(token: &Token) -> bool
     ensures { result ≡ declares_family (tok token.now.kind token.now.bytes.now) }
 {
     match global(token) {
-        Some(name) => is_family_name(name),
+        Some(name) => is_family_name(name.bytes),
         None => false,
     }
 }

@@ -19,11 +19,12 @@ use line_parts::{
     token_name, zero,
 };
 use line_tokens::{Dropped, Flags, Literal};
+use sp_text::Name;
 use std::alloc::Global;
 
 // `%x = call`, before the type of what is called.
-fn called_result<'a>(cursor: &mut Cursor<'_, 'a>) -> Result<&'a [u8], Stop>
-    ensures { Gives (λ x. name x.now ∷ []) result cursor.new (parse (result_is (calling [])) cursor.old) }
+fn called_result<'a>(cursor: &mut Cursor<'_, 'a>) -> Result<Name<'a>, Stop>
+    ensures { Gives (λ x. name x.bytes.now ∷ []) result cursor.new (parse (result_is (calling [])) cursor.old) }
 {
     let result = cursor.local()?;
     cursor.mark(b"=")?;
@@ -91,8 +92,8 @@ fn callee_type(cursor: &mut Cursor, alloc: Global) -> Result<FunctionType, Stop>
 }
 
 // The name of what a statepoint calls, and how many arguments the line says that there are.
-fn callee_count<'a>(cursor: &mut Cursor<'_, 'a>) -> Result<(&'a [u8], Literal), Stop>
-    ensures { Gives (λ said. name said.0.now ∷ literal said.1 ∷ []) result cursor.new (parse callee_count cursor.old) }
+fn callee_count<'a>(cursor: &mut Cursor<'_, 'a>) -> Result<(Name<'a>, Literal), Stop>
+    ensures { Gives (λ said. name said.0.bytes.now ∷ literal said.1 ∷ []) result cursor.new (parse callee_count cursor.old) }
 {
     cursor.skip(Dropped::BesideElementType);
     let callee = cursor.global()?;
@@ -121,13 +122,13 @@ fn point_end<'a>(
 // A statepoint, whose call is kept apart, so that other readings stay small.
 fn boxed<'a>(
     alloc: Global,
-    token: &'a [u8],
+    token: Name<'a>,
     call: StatepointCall<'a>,
     entries: LiveEntries<'a>,
 ) -> Result<Reading<'a>, Stop>
     ensures { (rest : List Tok) → Gives seen result rest (Some (
-      of_form Form.Statepoint (name token.now ∷ literal call.entry.id
-          ∷ ty call.entry.function_type.answer ∷ types call.entry.function_type.parameters.items ∷ name call.entry.callee.now
+      of_form Form.Statepoint (name token.bytes.now ∷ literal call.entry.id
+          ∷ ty call.entry.function_type.answer ∷ types call.entry.function_type.parameters.items ∷ name call.entry.callee.bytes.now
           ∷ literal call.entry.count ∷ handed (map seen_passed call.entry.passed.items) ∷ live (map seen_value entries.entry.items) ∷ []),
       rest,
     )) }
@@ -155,7 +156,7 @@ pub fn statepoint<'a>(cursor: &mut Cursor<'_, 'a>, alloc: Global) -> Result<Read
     let (callee, count) = callee_count(cursor)?;
     let (passed, live) = point_end(cursor, alloc)?;
     if !takes_own(
-        callee,
+        callee.bytes,
         function_type.parameters.as_slice(),
         passed.as_slice(),
     ) {

@@ -1,7 +1,8 @@
 //! Whole lines of a form.
 
 ghost use Rattle.std.specs.Prelude.{◌≡◌, true, false, is_some, MatchResult};
-ghost use Rattle.std.specs.Option.{option_copied};
+ghost use Rattle.std.specs.Option.{option_map};
+ghost use Rattle.sp_text.specs.Names.{seen_name};
 ghost use Rattle.line_parts.specs.Gives.{Gives};
 ghost use Rattle.line_forms.specs.Forms.{is_dropped_form, is_operator_form};
 ghost use Rattle.line_forms.specs.Seen.{seen, of_form, line_at, behind_operator, opened_at, ended, Reads, dropped_says};
@@ -16,6 +17,7 @@ use crate::groups::{gc_relocate, gc_result, statepoint};
 use crate::heads::{close, declare, define, dropped_line, layout};
 use crate::readings::Reading;
 use line_parts::{Cursor, Stop, TypeWord};
+use sp_text::Name;
 use std::alloc::Global;
 
 // What a line of this form says.
@@ -52,10 +54,10 @@ fn operated<'a>(
     cursor: &mut Cursor<'_, 'a>,
     alloc: Global,
     form: Form,
-    name: &'a [u8],
+    name: Name<'a>,
 ) -> Result<Reading<'a>, Stop>
     requires { is_operator_form form ≡ true }
-    ensures { Gives seen result cursor.new (behind_operator form name.now cursor.old) }
+    ensures { Gives seen result cursor.new (behind_operator form name.bytes.now cursor.old) }
 {
     match form {
         Form::Binary(op) => binary(cursor, name, op),
@@ -78,11 +80,11 @@ pub fn whole_kept<'a>(
     cursor: &mut Cursor<'_, 'a>,
     alloc: Global,
     form: Form,
-    name: Option<&'a [u8]>,
+    name: Option<Name<'a>>,
 ) -> Result<Reading<'a>, Stop>
     requires kept { is_dropped_form form ≡ false }
-    requires opened { is_some (option_copied name) ≡ is_operator_form form }
-    ensures { Reads seen result (ended (opened_at form (option_copied name.entry) cursor.old)) }
+    requires opened { is_some (option_map seen_name name) ≡ is_operator_form form }
+    ensures { Reads seen result (ended (opened_at form (option_map seen_name name.entry) cursor.old)) }
 {
     let read = match name {
         Some(name) => operated(cursor, alloc, form, name),

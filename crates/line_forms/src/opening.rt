@@ -1,7 +1,8 @@
 //! Which form a line can have, by the tokens that it begins with.
 
 ghost use Rattle.std.specs.Prelude.{◌≡◌, false, is_some, MatchOption, IfSome};
-ghost use Rattle.std.specs.Option.{option_copied};
+ghost use Rattle.std.specs.Option.{option_copied, option_map};
+ghost use Rattle.sp_text.specs.Names.{seen_name};
 ghost use Rattle.sp_text.specs.Tokens.{tok};
 ghost use Rattle.line_tokens.specs.Marks.{begins, is_local, is_word};
 ghost use Rattle.line_parts.specs.Drops.{past};
@@ -15,7 +16,7 @@ use line_tokens::{
     Binary, Cast, Conversion, Dropped, Flags, global, is_family_name, is_mark, is_result_name,
     is_text, local, relocate_name, statepoint_name, width_in,
 };
-use sp_text::Kind;
+use sp_text::{Kind, Name};
 
 fn is_calling_word(bytes: &[u8]) -> bool
     ensures { result ≡ is_calling_word bytes.now }
@@ -90,9 +91,9 @@ fn declared_form(name: Option<&[u8]>) -> Form
 pub fn opened_form<'a>(
     cursor: &mut Cursor<'_, 'a>,
     text: TextForm,
-) -> Option<(Form, Option<&'a [u8]>)>
+) -> Option<(Form, Option<Name<'a>>)>
     ensures { MatchOption result (form_in text cursor.old ≡ None)
-        (λ found. Opens text cursor.old found.0 (option_copied found.1) cursor.new) }
+        (λ found. Opens text cursor.old found.0 (option_map seen_name found.1) cursor.new) }
 {
     let (form, name) = source_form(cursor)?;
     match name {
@@ -138,7 +139,7 @@ fn first_global<'a>(cursor: &Cursor<'_, 'a>) -> Option<&'a [u8]>
     let mut rest = cursor.copied();
     while let Some(token) = rest.token() {
         if let Some(name) = global(&token) {
-            return Some(name);
+            return Some(name.bytes);
         }
     }
     None
@@ -198,11 +199,11 @@ fn declared<'a>(cursor: &Cursor<'_, 'a>) -> Option<&'a [u8]>
 // The form of a line of the source form. Where that is an operator's, the cursor passes the operator, and the name of
 // the result is given.
 #[tactic(auto, using(crate::proofs::Operators::line_behind), unfolding(crate::specs::Forms::form_of))]
-fn source_form<'a>(cursor: &mut Cursor<'_, 'a>) -> Option<(Form, Option<&'a [u8]>)>
+fn source_form<'a>(cursor: &mut Cursor<'_, 'a>) -> Option<(Form, Option<Name<'a>>)>
     ensures form { MatchOption result (form_of cursor.old ≡ None) (λ found. form_of cursor.old ≡ Some found.0) }
-    ensures operator { IfSome result (λ found. is_some (option_copied found.1) ≡ is_operator_form found.0) }
+    ensures operator { IfSome result (λ found. is_some (option_map seen_name found.1) ≡ is_operator_form found.0) }
     ensures stays { IfSome result (λ found. is_operator_form found.0 ≡ false → cursor.new ≡ cursor.old) }
-    ensures opened { IfSome result (λ found. line_at found.0 cursor.old ≡ opened_at found.0 (option_copied found.1) cursor.new) }
+    ensures opened { IfSome result (λ found. line_at found.0 cursor.old ≡ opened_at found.0 (option_map seen_name found.1) cursor.new) }
 {
     let mut rest = cursor.copied();
     let first = rest.token()?;

@@ -2,6 +2,7 @@ use crate::bundles::LiveEntries;
 use ir_ast::Pred;
 use line_parts::{AllPassed, Arguments, Entries, Fields, Parameters, TypeWord, Value};
 use line_tokens::{Binary, Cast, Conversion, Literal};
+use sp_text::Name;
 
 /// The type of a function, `R (A, ..)`.
 #[derive(Drop)]
@@ -16,7 +17,7 @@ pub struct StatepointCall<'a> {
     pub id: Literal,
     /// The type that the line gives the callee.
     pub function_type: FunctionType,
-    pub callee: &'a [u8],
+    pub callee: Name<'a>,
     /// How many arguments the line says that there are.
     pub count: Literal,
     pub passed: AllPassed<'a>,
@@ -27,19 +28,19 @@ pub struct StatepointCall<'a> {
 pub enum Reading<'a> {
     /// `%T = type { F, F, .. }`
     Layout {
-        name: &'a [u8],
+        name: Name<'a>,
         fields: Fields,
     },
     /// `declare R @name(A, A, ..)`. Names that the line gives its parameters mean nothing.
     Declare {
         answer: TypeWord,
-        name: &'a [u8],
+        name: Name<'a>,
         parameters: Arguments<'a>,
     },
     /// `define R @name(T %a, T %b, ..) gc "S" {`, with the bytes of S.
     Define {
         answer: TypeWord,
-        name: &'a [u8],
+        name: Name<'a>,
         arguments: Arguments<'a>,
         strategy: Option<&'a [u8]>,
     },
@@ -47,11 +48,11 @@ pub enum Reading<'a> {
     Close,
     /// `name:`, the head of a block.
     Label {
-        name: &'a [u8],
+        name: Name<'a>,
     },
     /// `%x = OP iN V, V`
     Binary {
-        result: &'a [u8],
+        result: Name<'a>,
         op: Binary,
         width: u32,
         left: Value<'a>,
@@ -59,7 +60,7 @@ pub enum Reading<'a> {
     },
     /// `%x = icmp PRED T V, V`
     Compare {
-        result: &'a [u8],
+        result: Name<'a>,
         pred: Pred,
         ty: TypeWord,
         left: Value<'a>,
@@ -67,7 +68,7 @@ pub enum Reading<'a> {
     },
     /// `%x = trunc iN V to iM`, and so `zext` and `sext`
     Convert {
-        result: &'a [u8],
+        result: Name<'a>,
         op: Conversion,
         width: u32,
         value: Value<'a>,
@@ -75,7 +76,7 @@ pub enum Reading<'a> {
     },
     /// `%x = select i1 V, T V, T V`
     Select {
-        result: &'a [u8],
+        result: Name<'a>,
         condition: Value<'a>,
         left_ty: TypeWord,
         left: Value<'a>,
@@ -84,13 +85,13 @@ pub enum Reading<'a> {
     },
     /// `%x = phi T [ V, %l ], [ V, %m ], ..`
     Phi {
-        result: &'a [u8],
+        result: Name<'a>,
         ty: TypeWord,
         entries: Entries<'a>,
     },
     /// `%x = getelementptr E, P V, iN V`, where E is `i8`, `i16`, `i32`, `i64` or `ptr addrspace(1)`
     ScalarElement {
-        result: &'a [u8],
+        result: Name<'a>,
         element: TypeWord,
         address: Value<'a>,
         width: u32,
@@ -98,8 +99,8 @@ pub enum Reading<'a> {
     },
     /// `%x = getelementptr %T, P V, iN V`, and maybe `, i32 C`, the place of a field
     LayoutElement {
-        result: &'a [u8],
-        layout: &'a [u8],
+        result: Name<'a>,
+        layout: Name<'a>,
         address: Value<'a>,
         width: u32,
         index: Value<'a>,
@@ -107,7 +108,7 @@ pub enum Reading<'a> {
     },
     /// `%x = load T, P V`
     Load {
-        result: &'a [u8],
+        result: Name<'a>,
         ty: TypeWord,
         address: Value<'a>,
     },
@@ -119,37 +120,37 @@ pub enum Reading<'a> {
     },
     /// `%x = call T @f(T V, ..)`
     ValueCall {
-        result: &'a [u8],
+        result: Name<'a>,
         answer: TypeWord,
-        callee: &'a [u8],
+        callee: Name<'a>,
         passed: AllPassed<'a>,
     },
     /// `call void @f(T V, ..)`
     VoidCall {
-        callee: &'a [u8],
+        callee: Name<'a>,
         passed: AllPassed<'a>,
     },
     /// `br label %l`
     Jump {
-        label: &'a [u8],
+        label: Name<'a>,
     },
     /// `br i1 V, label %l, label %m`
     Branch {
         condition: Value<'a>,
-        on_true: &'a [u8],
-        on_false: &'a [u8],
+        on_true: Name<'a>,
+        on_false: Name<'a>,
     },
     /// `switch iN V, label %l [`; its cases and its end are the next readings.
     Switch {
         width: u32,
         value: Value<'a>,
-        default: &'a [u8],
+        default: Name<'a>,
     },
     /// `iN C, label %m` in a `switch`
     Case {
         width: u32,
         value: Value<'a>,
-        label: &'a [u8],
+        label: Name<'a>,
     },
     /// `]`, the end of a `switch`
     SwitchEnd,
@@ -164,7 +165,7 @@ pub enum Reading<'a> {
     Unreachable,
     /// `%x = CAST T V to U`
     Cast {
-        result: &'a [u8],
+        result: Name<'a>,
         op: Cast,
         from: TypeWord,
         value: Value<'a>,
@@ -173,20 +174,20 @@ pub enum Reading<'a> {
     /// `%t = call token (..) @llvm.experimental.gc.statepoint.p0(i64 ID, i32 0, ptr elementtype(R (A, ..)) @f, i32 C,
     /// i32 0, T V, .., i32 0, i32 0) [ "gc-live"(P V, ..) ]`, with the live entries, in the rewritten form
     Statepoint {
-        result: &'a [u8],
+        result: Name<'a>,
         call: Box<StatepointCall<'a>>,
         live: LiveEntries<'a>,
     },
     /// `%x = call T @llvm.experimental.gc.result.S(token %t)`, in the rewritten form
     GcResult {
-        result: &'a [u8],
+        result: Name<'a>,
         answer: TypeWord,
-        token: &'a [u8],
+        token: Name<'a>,
     },
     /// `%x = call P @llvm.experimental.gc.relocate.p1(token %t, i32 B, i32 D)`, in the rewritten form
     GcRelocate {
-        result: &'a [u8],
-        token: &'a [u8],
+        result: Name<'a>,
+        token: Name<'a>,
         base: Literal,
         derived: Literal,
     },

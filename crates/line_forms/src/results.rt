@@ -15,7 +15,7 @@ fn names_function(token: &Token, name: &[u8]) -> bool
     ensures { result ≡ is_global name.now (tok token.now.kind token.now.bytes.now) }
 {
     match global(token) {
-        Some(found) => is_text(found, name),
+        Some(found) => is_text(found.bytes, name),
         None => false,
     }
 }
@@ -56,7 +56,7 @@ pub fn result_type(cursor: &mut Cursor) -> Result<TypeWord, Stop>
     let first = cursor.copied();
     let ty = cursor.value_type()?;
     let name = cursor.global()?;
-    if is_result_of(suffix(&first, ty), name) {
+    if is_result_of(suffix(&first, ty), name.bytes) {
         Ok(ty)
     } else {
         Err(Stop::NoReading)

@@ -5,9 +5,10 @@ use Rattle.std.specs.Str.{bytes_eq}
 use Rattle.sp_text.specs.Tokens.{Tok, tok}
 use Rattle.sp_text.specs.declared.tokens.Kind.TheVariants as kinds
 use Rattle.line_tokens.specs.declared.words.Dropped.{Dropped}
+use Rattle.line_tokens.specs.declared.words.Flags.{Flags}
 use Rattle.line_tokens.specs.declared.words.Dropped.TheVariants as drops
 use Rattle.line_tokens.specs.Marks.{is_word, is_mark, is_number, is_quoted, begins}
-use Rattle.line_parts.specs.Drops.{after_bracket, past_bracketing, past, past_quoted_value, past_word, past_group, past_head_attachment, past_attachment, past_alignment, past_one_of, past_group_beside, past_dropped, past_at_most, past_all, is_one_of, is_attribute_word, is_bang_name, is_bang_number, flag_words}
+use Rattle.line_parts.specs.Drops.{after_bracket, past_bracketing, past, past_quoted_value, past_word, past_group, past_head_attachment, past_attachment, past_alignment, past_one_of, past_group_beside, past_dropped, past_at_most, past_all, is_one_of, is_attribute_word, is_bang_name, is_bang_number, is_any_word, flag_words}
 
 if_some : {A : Type 0} (b : Bool) (x y : A) → cond b (Some x) None ≡ Some y → x ≡ y
 if_some true x y e = cc
@@ -165,3 +166,33 @@ at_most-le (suc n) what ts = behind-le n what ts (past_dropped what ts) refl (λ
 pub past_all-le : (what : Dropped) (ts : List Tok) → length (past_all what ts) ≤ length ts
 unfolding past_all
 past_all-le what ts = at_most-le (length ts) what ts
+
+pub nothing_passed : (what : Dropped) (ts : List Tok) → past_dropped what ts ≡ None → past_all what ts ≡ ts
+nothing_passed what ts e = past_all-none what ts e
+
+-- what one look at the next token tells
+
+first_fails : (b c d : Bool) → b ≡ false → (b && c && d) ≡ false
+first_fails true c d e = absurd cc
+first_fails false c d e = refl
+
+none_there : (b : Bool) (ts : List Tok) → b ≡ false → cond b (Some ts) None ≡ None
+none_there true ts e = absurd cc
+none_there false ts e = refl
+
+pub no_attachment : (ts : List Tok) → begins (is_mark (codes ",")) ts ≡ false → past_dropped drops.Attachments ts ≡ None
+no_attachment [] e = refl
+no_attachment (t ∷ []) e = refl
+no_attachment (t ∷ u ∷ []) e = refl
+no_attachment (t ∷ u ∷ v ∷ ts) e = none_there _ ts (first_fails (is_mark (codes ",") t) (is_bang_name u) (is_bang_number v) e)
+
+pub no_alignment : (ts : List Tok) → begins (is_mark (codes ",")) ts ≡ false → past_dropped drops.Alignments ts ≡ None
+no_alignment [] e = refl
+no_alignment (t ∷ []) e = refl
+no_alignment (t ∷ u ∷ []) e = refl
+no_alignment (t ∷ u ∷ v ∷ ts) e = none_there _ ts (first_fails (is_mark (codes ",") t) (is_word (codes "align") u) (is_number v) e)
+
+pub no_flag : (which : Flags) (ts : List Tok) → begins is_any_word ts ≡ false → past_dropped (drops.Words which) ts ≡ None
+no_flag which [] e = refl
+no_flag which (tok kinds.Word bytes ∷ ts) e = absurd cc
+no_flag which (t ∷ ts) e = refl

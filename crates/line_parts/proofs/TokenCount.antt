@@ -1,5 +1,5 @@
 -- A line has no more tokens than bytes.
-use Rattle.std.proofs.Common.{ℕ, zero, suc, ◌-◌, ◌≤◌, Bool, true, false, cond, eqb, List, [], ◌∷◌, length, Option, Some, None, arith}
+use Rattle.std.proofs.Common.{◌≡◌, refl, ℕ, zero, suc, ◌-◌, ◌≤◌, Bool, true, false, cond, eqb, List, [], ◌∷◌, length, Option, Some, None, arith}
 use Rattle.sp_text.specs.Bytes.{is_blank, semicolon}
 use Rattle.sp_text.specs.declared.tokens.Kind.{Kind}
 use Rattle.sp_text.specs.Tokens.{Tok, front_of, front_and_more, tokens_after, tokens}
@@ -23,3 +23,8 @@ tokens_after-le (suc skip) (b ∷ bs) = omega (arith, tokens_after-le skip bs)
 pub tokens-le : (bs : List ℕ) → length (tokens bs) ≤ length bs
 unfolding tokens
 tokens-le bs = tokens_after-le 0 bs
+
+pub no_bytes : (bs : List ℕ) → length bs ≡ 0 → tokens bs ≡ []
+unfolding tokens tokens_after
+no_bytes [] e = refl
+no_bytes (b ∷ bs) e = absurd (omega (arith, e))

@@ -1,5 +1,5 @@
 -- Words that are read and dropped.
-use Rattle.std.specs.Prelude.{ℕ, zero, suc, Bool, false, ◌&&◌, ◌||◌, not, List, [], ◌∷◌, Option, Some, None, length, ◌+◌, ◌-◌, ◌==◌, codes, unwrap_or, if◌then◌else◌}
+use Rattle.std.specs.Prelude.{ℕ, zero, suc, Bool, true, false, ◌&&◌, ◌||◌, not, List, [], ◌∷◌, Option, Some, None, length, ◌+◌, ◌-◌, ◌==◌, codes, unwrap_or, if◌then◌else◌}
 use Rattle.std.specs.Char.{is_ascii_digit}
 use Rattle.std.specs.Str.{bytes_eq}
 use Rattle.sp_text.specs.Tokens.{Tok, tok}
@@ -87,6 +87,10 @@ past_group_beside ts = if begins (is_word (codes "elementtype")) ts then None el
 abbrev pub past_one_of : List (List ℕ) → List Tok → Option (List Tok)
 past_one_of words (tok kinds.Word bytes ∷ ts) = if is_one_of words bytes then Some ts else None
 past_one_of words _ = None
+
+abbrev pub is_any_word : Tok → Bool
+is_any_word (tok kinds.Word bytes) = true
+is_any_word _ = false
 
 -- the words of a flag
 abbrev pub flag_words : Flags → List (List ℕ)

@@ -1,5 +1,5 @@
 -- The parts of lines of statepoint groups: numbers, what a statepoint takes, its live entries, results, declarations.
-use Rattle.std.specs.Prelude.{ℕ, Bool, true, false, ◌&&◌, ◌||◌, not, List, [], ◌∷◌, Option, Some, None, drop, is_some, option_map, codes, if◌then◌else◌}
+use Rattle.std.specs.Prelude.{ℕ, Bool, true, false, ◌&&◌, ◌||◌, not, List, [], ◌∷◌, Option, Some, None, is_some, option_map, codes, if◌then◌else◌}
 use Rattle.std.specs.List.{list_all}
 use Rattle.std.specs.Str.{bytes_eq}
 use Rattle.sp_text.specs.Tokens.{Tok, tok}
@@ -9,7 +9,7 @@ use Rattle.line_parts.specs.declared.readings.TypeWord.TheVariants as types
 use Rattle.line_tokens.specs.declared.literals.Literal.{Literal}
 use Rattle.line_tokens.specs.declared.words.Dropped.TheVariants as drops
 use Rattle.line_parts.specs.Gives.{Found, after, one_at}
-use Rattle.line_tokens.specs.Marks.{is_mark, is_word, stands, begins}
+use Rattle.line_tokens.specs.Marks.{is_mark, is_word, global_of, stands, begins}
 use Rattle.line_tokens.specs.Numbers.{literal_of}
 use Rattle.line_parts.specs.Drops.{after_bracket, past_all, past}
 use Rattle.line_parts.specs.Parts.{Val, word_at, mark_at, local_at, global_at, value_at, allowed_type_at, is_value_type, is_answer_type, is_managed}
@@ -102,9 +102,12 @@ result_at ts = after (allowed_type_at is_value_type ts) (λ ty rest. after (glob
 
 -- ---- declarations of the three families
 
+abbrev pub is_family : Option (List ℕ) → Bool
+is_family None = false
+is_family (Some name) = is_family_name name
+
 abbrev pub declares_family : Tok → Bool
-declares_family (tok kinds.Global bytes) = is_family_name (drop 1 bytes)
-declares_family _ = false
+declares_family t = is_family (global_of t)
 
 -- `token`, or what a function answers else
 unfoldable pub family_answer_at : List Tok → Found (Option TypeWord)

@@ -1,5 +1,5 @@
 -- The parts of line forms: types, values, elements, heads.
-use Rattle.std.specs.Prelude.{ℕ, Bool, true, false, ◌&&◌, ◌||◌, List, [], ◌∷◌, Option, Some, None, ◌==◌, drop, codes, if◌then◌else◌}
+use Rattle.std.specs.Prelude.{ℕ, Bool, true, false, ◌&&◌, ◌||◌, List, [], ◌∷◌, Option, Some, None, ◌==◌, drop, option_map, codes, if◌then◌else◌}
 use Rattle.std.specs.Str.{bytes_eq}
 use Rattle.sp_text.specs.Tokens.{Tok, tok}
 use Rattle.sp_text.specs.declared.tokens.Kind.TheVariants as kinds
@@ -7,7 +7,7 @@ use Rattle.line_parts.specs.declared.readings.TypeWord.{TypeWord}
 use Rattle.line_parts.specs.declared.readings.TypeWord.TheVariants as types
 use Rattle.line_tokens.specs.declared.literals.Literal.{Literal}
 use Rattle.line_parts.specs.Gives.{Found, after, one_at}
-use Rattle.line_tokens.specs.Marks.{is_word, is_mark, local_of, global_of, quoted_of, stands, begins}
+use Rattle.line_tokens.specs.Marks.{is_word, is_mark, named, local_of, global_of, quoted_of, stands, begins}
 use Rattle.line_tokens.specs.Numbers.{width_of, literal_spelled, literal_of}
 
 abbrev pub word_at : List ℕ → List Tok → Found (Unit {0})
@@ -94,7 +94,7 @@ word_value bytes = if bytes_eq bytes (codes "true") then Some (truth true) else 
     else if bytes_eq bytes (codes "null") then Some null else None
 
 abbrev pub value_of : Tok → Option Val
-value_of (tok kinds.Local bytes) = Some (local (drop 1 bytes))
+value_of (tok kinds.Local bytes) = option_map local (named (drop 1 bytes))
 value_of (tok kinds.Number bytes) = Some (number (literal_spelled bytes))
 value_of (tok kinds.Word bytes) = word_value bytes
 value_of _ = None

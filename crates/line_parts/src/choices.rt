@@ -1,7 +1,8 @@
 //! Words of choice, and parts that may lack.
 
 ghost use Rattle.std.specs.Prelude.{◌≡◌, codes};
-ghost use Rattle.std.specs.Option.{option_copied};
+ghost use Rattle.std.specs.Option.{option_copied, option_map};
+ghost use Rattle.sp_text.specs.Names.{seen_name};
 ghost use Rattle.sp_text.specs.Tokens.{tok};
 ghost use Rattle.line_parts.specs.Gives.{Gives, one_at};
 ghost use Rattle.line_parts.specs.Parts.{case_value_at, name_if_any, place_at, begins_place, strategy_at, to_brace_at};
@@ -13,7 +14,7 @@ use crate::faults::Stop;
 use crate::readings::Value;
 use ir_ast::Pred;
 use line_tokens::{Literal, is_mark, is_word, local, pred_in};
-use sp_text::{Kind, Token};
+use sp_text::{Kind, Name, Token};
 
 impl<'t, 'a> Cursor<'t, 'a> {
     /// A predicate.
@@ -46,8 +47,8 @@ impl<'t, 'a> Cursor<'t, 'a> {
     }
 
     /// A name, where one stands.
-    pub fn name_if_any(&mut self) -> Option<&'a [u8]>
-        ensures { name_if_any self.old ≡ (option_copied result, self.new) }
+    pub fn name_if_any(&mut self) -> Option<Name<'a>>
+        ensures { name_if_any self.old ≡ (option_map seen_name result, self.new) }
     {
         let token = self.peek()?;
         let name = local(&token)?;

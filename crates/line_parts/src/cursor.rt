@@ -44,7 +44,22 @@ fn found_at<'a>(found: &[Token<'a>], at: usize) -> Option<Token<'a>>
 }
 
 // The first token of the bytes, and what follows it. There may be none: the line ends there, or a byte begins no token.
+#[inline(always)]
+#[tactic(auto, using(crate::proofs::TokenCount::no_bytes))]
 fn first_of<'a>(bytes: &'a [u8]) -> Option<(Token<'a>, &'a [u8])>
+    ensures { MatchOption result ((tokens bytes.now ≡ []) ⊎ (tokens bytes.now ≡ bad ∷ []))
+        (λ found. tokens bytes.now ≡ tok found.0.kind found.0.bytes.now ∷ tokens found.1.now) }
+{
+    if bytes.is_empty() {
+        None
+    } else {
+        first_found(bytes)
+    }
+}
+
+// The same, where bytes are left: mostly a line's tokens were all found before.
+#[inline(never)]
+fn first_found<'a>(bytes: &'a [u8]) -> Option<(Token<'a>, &'a [u8])>
     ensures { MatchOption result ((tokens bytes.now ≡ []) ⊎ (tokens bytes.now ≡ bad ∷ []))
         (λ found. tokens bytes.now ≡ tok found.0.kind found.0.bytes.now ∷ tokens found.1.now) }
 {
@@ -63,7 +78,20 @@ fn first_of<'a>(bytes: &'a [u8]) -> Option<(Token<'a>, &'a [u8])>
 }
 
 // Whether no token and no byte that begins none stands there.
+#[inline(always)]
+#[tactic(auto, using(crate::proofs::TokenCount::no_bytes))]
 fn ends(bytes: &[u8]) -> bool
+    ensures { result ≡ is_nil (tokens bytes.now) }
+{
+    if bytes.is_empty() {
+        true
+    } else {
+        says_nothing(bytes)
+    }
+}
+
+#[inline(never)]
+fn says_nothing(bytes: &[u8]) -> bool
     ensures { result ≡ is_nil (tokens bytes.now) }
 {
     let line = Line { number: 0, bytes };

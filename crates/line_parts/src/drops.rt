@@ -1,9 +1,9 @@
 //! Words that are read and dropped.
 
-ghost use Rattle.std.specs.Prelude.{◌≡◌, codes, is_some};
+ghost use Rattle.std.specs.Prelude.{◌≡◌, true, None, codes, is_some};
 ghost use Rattle.sp_text.specs.Tokens.{tok};
 ghost use Rattle.line_tokens.specs.Marks.{is_number, is_quoted, begins};
-ghost use Rattle.line_parts.specs.Drops.{reserved, is_attribute_word, past_word, past_group, past_quoted_value, past_bracketing, after_bracket, past, past_attachment, past_head_attachment, past_alignment, past_one_of, past_group_beside, past_dropped, past_all, is_bang_name, is_bang_number, is_one_of, flag_words};
+ghost use Rattle.line_parts.specs.Drops.{reserved, is_attribute_word, past_word, past_group, past_quoted_value, past_bracketing, after_bracket, past, past_attachment, past_head_attachment, past_alignment, past_one_of, past_group_beside, past_dropped, past_all, is_bang_name, is_bang_number, is_any_word, is_one_of, flag_words};
 
 use crate::cursor::Cursor;
 use line_tokens::{Dropped, Flags, is_integer_word, is_mark, is_text, is_word};
@@ -297,8 +297,45 @@ impl<'t, 'a> Cursor<'t, 'a> {
         }
     }
 
+    #[inline(always)]
+    fn begins_any_word(&self) -> bool
+        ensures { result ≡ begins is_any_word self.now }
+    {
+        match self.peek() {
+            Some(token) => token.kind == Kind::Word,
+            None => false,
+        }
+    }
+
+    // Whether nothing that is dropped stands there, as far as one look at the next token tells.
+    #[inline(always)]
+    #[tactic(auto, using(crate::proofs::Dropping::no_attachment, crate::proofs::Dropping::no_alignment, crate::proofs::Dropping::no_flag))]
+    fn drops_nothing(&self, what: Dropped) -> bool
+        ensures { result ≡ true → past_dropped what self.now ≡ None }
+    {
+        match what {
+            Dropped::Attachments => !self.begins_mark(b","),
+            Dropped::Alignments => !self.begins_mark(b","),
+            Dropped::Words(_) => !self.begins_any_word(),
+            _ => false,
+        }
+    }
+
     /// Passes all that is dropped there.
+    #[inline(always)]
+    #[tactic(auto, using(crate::proofs::Dropping::nothing_passed))]
     pub fn skip(&mut self, what: Dropped)
+        ensures { self.new ≡ past_all what self.old }
+    {
+        // mostly nothing is there
+        if self.drops_nothing(what) {
+            return;
+        }
+        self.pass_all(what);
+    }
+
+    #[inline(never)]
+    fn pass_all(&mut self, what: Dropped)
         ensures { self.new ≡ past_all what self.old }
     {
         while let Some(rest) = self.past_dropped(what) {

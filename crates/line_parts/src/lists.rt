@@ -1,6 +1,7 @@
 //! Lists in a line: fields, arguments, what a call passes, entries of a phi.
 
 ghost use Rattle.std.specs.Prelude.{◌≡◌, codes, map};
+ghost use Rattle.sp_text.specs.Names.{seen_name};
 ghost use Rattle.line_parts.specs.Gives.{Gives};
 ghost use Rattle.line_tokens.specs.Marks.{is_mark, begins};
 ghost use Rattle.line_parts.specs.Drops.{past};
@@ -13,6 +14,7 @@ use crate::faults::Stop;
 use crate::readings::{AllPassed, Argument, Arguments, Entries, Entry, Fields, Passed, TypeWord};
 use line_tokens::{Dropped, is_mark, is_text};
 use smallvec::SmallVec;
+use sp_text::Name;
 use std::alloc::Global;
 
 impl<'t, 'a> Cursor<'t, 'a> {
@@ -90,12 +92,12 @@ impl<'t, 'a> Cursor<'t, 'a> {
 
     /// The name and the arguments of a declaration or definition.
     #[tactic(auto, unfolding(crate::specs::Lists::head_at, crate::specs::Gives::after))]
-    pub fn head(&mut self, alloc: Global, declared: bool) -> Result<(&'a [u8], Arguments<'a>), Stop>
-        ensures { Gives (λ head. (head.0.now, map seen_argument head.1.items)) result self.new (head_at declared self.old) }
+    pub fn head(&mut self, alloc: Global, declared: bool) -> Result<(Name<'a>, Arguments<'a>), Stop>
+        ensures { Gives (λ head. (seen_name head.0, map seen_argument head.1.items)) result self.new (head_at declared self.old) }
     {
         let name = self.global()?;
         self.mark(b"(")?;
-        let plain = declared && is_text(name, b"task_start");
+        let plain = declared && is_text(name.bytes, b"task_start");
         let arguments = self.arguments(alloc, plain)?;
         self.mark(b")")?;
         Ok((name, arguments))
@@ -144,12 +146,12 @@ impl<'t, 'a> Cursor<'t, 'a> {
 
     /// The function that a call names, and what it passes.
     #[tactic(auto, unfolding(crate::specs::Lists::called_at, crate::specs::Gives::after))]
-    pub fn called(&mut self, alloc: Global) -> Result<(&'a [u8], AllPassed<'a>), Stop>
-        ensures { Gives (λ call. (call.0.now, map seen_passed call.1.items)) result self.new (called_at self.old) }
+    pub fn called(&mut self, alloc: Global) -> Result<(Name<'a>, AllPassed<'a>), Stop>
+        ensures { Gives (λ call. (seen_name call.0, map seen_passed call.1.items)) result self.new (called_at self.old) }
     {
         let name = self.global()?;
         self.mark(b"(")?;
-        let passed = self.all_passed(alloc, is_text(name, b"task_start"))?;
+        let passed = self.all_passed(alloc, is_text(name.bytes, b"task_start"))?;
         self.mark(b")")?;
         Ok((name, passed))
     }

@@ -1,6 +1,7 @@
 //! Numbers of a type in lines of statepoint groups, and the end of what a statepoint passes.
 
 ghost use Rattle.std.specs.Prelude.{◌≡◌};
+ghost use Rattle.sp_text.specs.Names.{seen_name};
 ghost use Rattle.sp_text.specs.Tokens.{tok};
 ghost use Rattle.line_tokens.specs.Marks.{stands};
 ghost use Rattle.line_tokens.specs.Numbers.{literal_of};
@@ -11,7 +12,7 @@ ghost use Rattle.line_parts.specs.Groups.{number_at, is_zero, zero_at, token_at,
 use crate::cursor::Cursor;
 use crate::faults::Stop;
 use line_tokens::{Dropped, Literal, is_mark, is_text, is_word};
-use sp_text::{Kind, Token};
+use sp_text::{Kind, Name, Token};
 
 fn is_zero(token: &Token) -> bool
     ensures { result ≡ is_zero (tok token.now.kind token.now.bytes.now) }
@@ -119,8 +120,8 @@ pub fn number_of(cursor: &mut Cursor, ty: &[u8]) -> Result<Literal, Stop>
 
 /// The name of a token.
 #[tactic(auto, unfolding(crate::specs::Groups::token_at, crate::specs::Gives::after))]
-pub fn token_name<'a>(cursor: &mut Cursor<'_, 'a>) -> Result<&'a [u8], Stop>
-    ensures { Gives (λ name. name.now) result cursor.new (token_at cursor.old) }
+pub fn token_name<'a>(cursor: &mut Cursor<'_, 'a>) -> Result<Name<'a>, Stop>
+    ensures { Gives seen_name result cursor.new (token_at cursor.old) }
 {
     cursor.word(b"token")?;
     cursor.skip(Dropped::Groups);

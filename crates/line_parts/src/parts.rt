@@ -2,6 +2,7 @@
 
 ghost use Rattle.std.specs.Prelude.{◌≡◌, codes};
 ghost use Rattle.std.specs.Option.{option_map};
+ghost use Rattle.sp_text.specs.Names.{seen_name};
 ghost use Rattle.sp_text.specs.Tokens.{tok};
 ghost use Rattle.line_parts.specs.Gives.{Gives, one_at};
 ghost use Rattle.line_tokens.specs.Marks.{begins, is_word, is_mark, is_quoted, is_hash, is_local, stands, quoted_of};
@@ -16,7 +17,7 @@ use crate::readings::{TypeWord, Value};
 use line_tokens::{
     Literal, global, is_mark, is_text, is_word, literal, literal_in, local, quoted, width,
 };
-use sp_text::{Kind, Token};
+use sp_text::{Kind, Name, Token};
 
 impl<'t, 'a> Cursor<'t, 'a> {
     /// Passes this word.
@@ -60,6 +61,7 @@ impl<'t, 'a> Cursor<'t, 'a> {
     }
 
     /// Whether this mark stands there.
+    #[inline(always)]
     pub fn begins_mark(&self, text: &[u8]) -> bool
         ensures { result ≡ begins (is_mark text.now) self.now }
     {
@@ -71,8 +73,8 @@ impl<'t, 'a> Cursor<'t, 'a> {
 
     /// The name behind a `%`.
     #[tactic(auto, unfolding(crate::specs::Gives::one_at))]
-    pub fn local(&mut self) -> Result<&'a [u8], Stop>
-        ensures { Gives (λ name. name.now) result self.new (local_at self.old) }
+    pub fn local(&mut self) -> Result<Name<'a>, Stop>
+        ensures { Gives seen_name result self.new (local_at self.old) }
     {
         let Some(token) = self.token() else {
             return Err(Stop::NoReading);
@@ -85,8 +87,8 @@ impl<'t, 'a> Cursor<'t, 'a> {
 
     /// The name behind an `@`.
     #[tactic(auto, unfolding(crate::specs::Gives::one_at))]
-    pub fn global(&mut self) -> Result<&'a [u8], Stop>
-        ensures { Gives (λ name. name.now) result self.new (global_at self.old) }
+    pub fn global(&mut self) -> Result<Name<'a>, Stop>
+        ensures { Gives seen_name result self.new (global_at self.old) }
     {
         let Some(token) = self.token() else {
             return Err(Stop::NoReading);

@@ -1,5 +1,6 @@
 use line_tokens::Literal;
 use smallvec::SmallVec;
+use sp_text::Name;
 
 /// A type as a line spells it.
 #[derive(Clone, Copy, Debug, PartialEq, Eq, Default)]
@@ -17,7 +18,7 @@ pub enum TypeWord {
 /// A value that an instruction uses. Names stand without their mark.
 #[derive(Clone, Copy, Debug, Default)]
 pub enum Value<'a> {
-    Local(&'a [u8]),
+    Local(Name<'a>),
     Number(Literal),
     Truth(bool),
     #[default]
@@ -28,7 +29,7 @@ pub enum Value<'a> {
 #[derive(Clone, Copy, Debug, Default)]
 pub struct Argument<'a> {
     pub ty: TypeWord,
-    pub name: Option<&'a [u8]>,
+    pub name: Option<Name<'a>>,
 }
 
 /// What a call passes.
@@ -36,7 +37,7 @@ pub struct Argument<'a> {
 pub enum Passed<'a> {
     Value(TypeWord, Value<'a>),
     /// `ptr @NAME`, which only `task_start` takes.
-    Function(&'a [u8]),
+    Function(Name<'a>),
 }
 
 impl Default for Passed<'_> {
@@ -49,14 +50,14 @@ impl Default for Passed<'_> {
 #[derive(Clone, Copy, Debug)]
 pub struct Entry<'a> {
     pub value: Value<'a>,
-    pub label: &'a [u8],
+    pub label: Name<'a>,
 }
 
 impl Default for Entry<'_> {
     fn default() -> Self {
         Entry {
             value: Value::Null,
-            label: &[],
+            label: Name { bytes: b"0" },
         }
     }
 }

@@ -1,7 +1,7 @@
 -- What one token says. A name stands without its mark.
 use Rattle.std.specs.Prelude.{ℕ, Bool, true, false, List, [], ◌∷◌, Option, Some, None, drop, take, length, ◌-◌, if◌then◌else◌}
 use Rattle.std.specs.Str.{bytes_eq}
-use Rattle.sp_text.specs.Tokens.{Tok, tok}
+use Rattle.sp_text.specs.Tokens.{Tok, tok, is_name}
 use Rattle.sp_text.specs.declared.tokens.Kind.TheVariants as kinds
 
 abbrev pub is_word : List ℕ → Tok → Bool
@@ -28,20 +28,27 @@ abbrev pub is_local : Tok → Bool
 is_local (tok kinds.Local bytes) = true
 is_local _ = false
 
+-- the bytes, where they are a name
+abbrev pub named : List ℕ → Option (List ℕ)
+named bytes = if is_name bytes then Some bytes else None
+
 -- the name behind `%`
 abbrev pub local_of : Tok → Option (List ℕ)
-local_of (tok kinds.Local bytes) = Some (drop 1 bytes)
+local_of (tok kinds.Local bytes) = named (drop 1 bytes)
 local_of _ = None
 
 -- the name behind `@`
 abbrev pub global_of : Tok → Option (List ℕ)
-global_of (tok kinds.Global bytes) = Some (drop 1 bytes)
+global_of (tok kinds.Global bytes) = named (drop 1 bytes)
 global_of _ = None
+
+abbrev pub is_this : List ℕ → Option (List ℕ) → Bool
+is_this text None = false
+is_this text (Some name) = bytes_eq name text
 
 -- this name behind `@`
 abbrev pub is_global : List ℕ → Tok → Bool
-is_global text (tok kinds.Global bytes) = bytes_eq (drop 1 bytes) text
-is_global text _ = false
+is_global text t = is_this text (global_of t)
 
 -- the bytes between the quotes
 abbrev pub quoted_of : Tok → Option (List ℕ)

@@ -1,12 +1,13 @@
 //! What one token says.
 
 ghost use Rattle.std.specs.Prelude.{◌≡◌, ◌-◌, take, drop, length};
-ghost use Rattle.std.specs.Option.{option_copied};
+ghost use Rattle.std.specs.Option.{option_copied, option_map};
 ghost use Rattle.std.specs.Str.{bytes_eq};
+ghost use Rattle.sp_text.specs.Names.{seen_name};
 ghost use Rattle.sp_text.specs.Tokens.{tok};
 ghost use Rattle.line_tokens.specs.Marks.{is_word, is_mark, local_of, global_of, quoted_of};
 
-use sp_text::{Kind, Token};
+use sp_text::{Kind, Name, Token};
 
 /// Whether the bytes are these.
 pub fn is_text(bytes: &[u8], text: &[u8]) -> bool
@@ -36,21 +37,27 @@ pub fn is_mark(token: &Token, text: &[u8]) -> bool
 }
 
 /// The name behind `%`.
-pub fn local<'a>(token: &Token<'a>) -> Option<&'a [u8]>
-    ensures { option_copied result ≡ local_of (tok token.now.kind token.now.bytes.now) }
+#[tactic(auto, using(crate::proofs::Names::behind_mark))]
+pub fn local<'a>(token: &Token<'a>) -> Option<Name<'a>>
+    ensures { option_map seen_name result ≡ local_of (tok token.now.kind token.now.bytes.now) }
 {
     match token.kind {
-        Kind::Local => Some(behind_first(token.bytes)),
+        Kind::Local => Some(Name {
+            bytes: behind_first(token.bytes),
+        }),
         _ => None,
     }
 }
 
 /// The name behind `@`.
-pub fn global<'a>(token: &Token<'a>) -> Option<&'a [u8]>
-    ensures { option_copied result ≡ global_of (tok token.now.kind token.now.bytes.now) }
+#[tactic(auto, using(crate::proofs::Names::behind_mark))]
+pub fn global<'a>(token: &Token<'a>) -> Option<Name<'a>>
+    ensures { option_map seen_name result ≡ global_of (tok token.now.kind token.now.bytes.now) }
 {
     match token.kind {
-        Kind::Global => Some(behind_first(token.bytes)),
+        Kind::Global => Some(Name {
+            bytes: behind_first(token.bytes),
+        }),
         _ => None,
     }
 }

@@ -75,7 +75,7 @@ fn show_tokens(rt: &impl Print, alloc: Global, line: &Line) -> Result<()> {
 // Ends the line.
 fn show_kind(rt: &impl Print, alloc: Global, line: &Line) -> Result<()> {
     if let Some(label) = line.label() {
-        let label = String::from_utf8_lossy(alloc, label)?;
+        let label = String::from_utf8_lossy(alloc, label.bytes)?;
         print!(rt; "; the label {label:?}")?;
     }
     if line.is_metadata() {

@@ -332,7 +332,7 @@ fn phi(
     let mut lost_labels = nothing_lost();
     for entry in entries {
         operands.push(operand(local, ty, &entry.value, lost))?;
-        labels.push(label(local, entry.label, &mut lost_labels))?;
+        labels.push(label(local, entry.label.bytes, &mut lost_labels))?;
     }
     add_unknown(lost_labels.unknown, lost);
     let name = owned(alloc, name)?;
@@ -403,13 +403,13 @@ fn gc_result(
     alloc: Global,
     name: &[u8],
     answer: TypeWord,
-    token: &[u8],
+    token: ir_reader::Name,
     insts: &mut Vec<Inst>,
     lost: &mut Lost,
 ) -> Result<(), AllocError>
     ensures insts { OnOk result (insts.new.items ≡ insts.old.items ++ (instruction (Some name.now) Op.GcResult (type_of answer)
-        (operand_in local.now.values token_type (values.local token.now) ∷ []) []) ∷ []) }
-    ensures lost { lost.new ≡ after_uses local.now.values lost.old (token_use token.now ∷ []) }
+        (operand_in local.now.values token_type (values.local token.bytes.now) ∷ []) []) ∷ []) }
+    ensures lost { lost.new ≡ after_uses local.now.values lost.old (token_use token.bytes.now ∷ []) }
 {
     let operands = [operand(local, TOKEN, &Value::Local(token), lost)];
     push_inst(
@@ -427,17 +427,17 @@ fn gc_relocate(
     local: &Local,
     alloc: Global,
     name: &[u8],
-    token: &[u8],
+    token: ir_reader::Name,
     base: Literal,
     derived: Literal,
     insts: &mut Vec<Inst>,
     lost: &mut Lost,
 ) -> Result<(), AllocError>
     ensures insts { OnOk result (insts.new.items ≡ insts.old.items ++ (instruction (Some name.now) Op.GcRelocate Ty.Ptr
-        (operand_in local.now.values token_type (values.local token.now)
+        (operand_in local.now.values token_type (values.local token.bytes.now)
         ∷ operand_in local.now.values (TypeWord.Int 32) (values.number base)
         ∷ operand_in local.now.values (TypeWord.Int 32) (values.number derived) ∷ []) []) ∷ []) }
-    ensures lost { lost.new ≡ after_uses local.now.values lost.old (token_use token.now ∷ index_use base ∷ index_use derived ∷ []) }
+    ensures lost { lost.new ≡ after_uses local.now.values lost.old (token_use token.bytes.now ∷ index_use base ∷ index_use derived ∷ []) }
 {
     let index = TypeWord::Int(32);
     let operands = [
@@ -483,7 +483,7 @@ fn switch(
             break;
         };
         operands.push(local.operand(ty, value))?;
-        labels.push(local.label(label))?;
+        labels.push(local.label(label.bytes))?;
     }
     let none = Vec::new(alloc);
     insts.push(Inst::of(None, Op::Switch, type_of(ty), operands, labels, none))?;
@@ -544,7 +544,7 @@ impl Scope<'_, '_, '_, '_> {
     {
         match one {
             Passed::Value(ty, value) => operand(self.local, *ty, value, lost),
-            Passed::Function(name) => Operand::Fun(FuncId(self.top.functions.number(name))),
+            Passed::Function(name) => Operand::Fun(FuncId(self.top.functions.number(name.bytes))),
         }
     }
 
@@ -687,7 +687,7 @@ impl Scope<'_, '_, '_, '_> {
     {
         let op = Op::Statepoint {
             id: wrapped(64, call.id),
-            callee: self.callee(call.callee),
+            callee: self.callee(call.callee.bytes),
             types: types_of(alloc, call.passed.as_slice())?,
         };
         let ty = type_of(call.function_type.answer);
@@ -739,21 +739,51 @@ impl Scope<'_, '_, '_, '_> {
                 width,
                 left,
                 right,
-            } => binary(local, alloc, result, *op, *width, left, right, insts, lost),
+            } => binary(
+                local,
+                alloc,
+                result.bytes,
+                *op,
+                *width,
+                left,
+                right,
+                insts,
+                lost,
+            ),
             Reading::Compare {
                 result,
                 pred,
                 ty,
                 left,
                 right,
-            } => compare(local, alloc, result, *pred, *ty, left, right, insts, lost),
+            } => compare(
+                local,
+                alloc,
+                result.bytes,
+                *pred,
+                *ty,
+                left,
+                right,
+                insts,
+                lost,
+            ),
             Reading::Convert {
                 result,
                 op,
                 width,
                 value,
                 to,
-            } => convert(local, alloc, result, *op, *width, value, *to, insts, lost),
+            } => convert(
+                local,
+                alloc,
+                result.bytes,
+                *op,
+                *width,
+                value,
+                *to,
+                insts,
+                lost,
+            ),
             Reading::Select {
                 result,
                 condition,
@@ -762,13 +792,30 @@ impl Scope<'_, '_, '_, '_> {
                 right_ty,
                 right,
             } => select(
-                local, alloc, result, condition, *left_ty, left, *right_ty, right, insts, lost,
+                local,
+                alloc,
+                result.bytes,
+                condition,
+                *left_ty,
+                left,
+                *right_ty,
+                right,
+                insts,
+                lost,
             ),
             Reading::Phi {
                 result,
                 ty,
                 entries,
-            } => phi(local, alloc, result, *ty, entries.as_slice(), insts, lost),
+            } => phi(
+                local,
+                alloc,
+                result.bytes,
+                *ty,
+                entries.as_slice(),
+                insts,
+                lost,
+            ),
             Reading::ScalarElement {
                 result,
                 element,
@@ -776,7 +823,15 @@ impl Scope<'_, '_, '_, '_> {
                 width,
                 index,
             } => scalar_step(
-                local, alloc, result, *element, address, *width, index, insts, lost,
+                local,
+                alloc,
+                result.bytes,
+                *element,
+                address,
+                *width,
+                index,
+                insts,
+                lost,
             ),
             Reading::LayoutElement {
                 result,
@@ -786,13 +841,21 @@ impl Scope<'_, '_, '_, '_> {
                 index,
                 place,
             } => self.layout_step(
-                alloc, result, layout, *place, address, *width, index, insts, lost,
+                alloc,
+                result.bytes,
+                layout.bytes,
+                *place,
+                address,
+                *width,
+                index,
+                insts,
+                lost,
             ),
             Reading::Load {
                 result,
                 ty,
                 address,
-            } => load(local, alloc, result, *ty, address, insts, lost),
+            } => load(local, alloc, result.bytes, *ty, address, insts, lost),
             Reading::Store { ty, value, address } => store(
                 local, alloc, *ty, value, address, insts, lost,
             ),
@@ -803,9 +866,9 @@ impl Scope<'_, '_, '_, '_> {
                 passed,
             } => self.call(
                 alloc,
-                Some(*result),
+                Some(result.bytes),
                 *answer,
-                callee,
+                callee.bytes,
                 passed.as_slice(),
                 insts,
                 lost,
@@ -815,23 +878,40 @@ impl Scope<'_, '_, '_, '_> {
                     alloc,
                     None,
                     TypeWord::Void,
-                    callee,
+                    callee.bytes,
                     passed.as_slice(),
                     insts,
                     lost,
                 )
             }
-            Reading::Jump { label } => jump(local, alloc, label, insts, lost),
+            Reading::Jump { label } => jump(local, alloc, label.bytes, insts, lost),
             Reading::Branch {
                 condition,
                 on_true,
                 on_false,
-            } => branch(local, alloc, condition, on_true, on_false, insts, lost),
+            } => branch(
+                local,
+                alloc,
+                condition,
+                on_true.bytes,
+                on_false.bytes,
+                insts,
+                lost,
+            ),
             Reading::Switch {
                 width,
                 value,
                 default,
-            } => switch(local, alloc, *width, value, default, behind, insts, lost),
+            } => switch(
+                local,
+                alloc,
+                *width,
+                value,
+                default.bytes,
+                behind,
+                insts,
+                lost,
+            ),
             Reading::ReturnVoid => push_inst(alloc, None, Op::Ret, Ty::Void, &[], &[], insts),
             Reading::Return { ty, value } => ret(local, alloc, *ty, value, insts, lost),
             Reading::Unreachable => push_inst(
@@ -844,32 +924,41 @@ impl Scope<'_, '_, '_, '_> {
                 insts,
             ),
             Reading::Statepoint { result, call, live } => {
-                self.statepoint(alloc, result, &**call, live.as_slice(), insts, lost)
+                self.statepoint(alloc, result.bytes, &**call, live.as_slice(), insts, lost)
             }
             Reading::GcResult {
                 result,
                 answer,
                 token,
-            } => gc_result(local, alloc, result, *answer, token, insts, lost),
+            } => gc_result(local, alloc, result.bytes, *answer, *token, insts, lost),
             Reading::GcRelocate {
                 result,
                 token,
                 base,
                 derived,
-            } => gc_relocate(local, alloc, result, token, *base, *derived, insts, lost),
+            } => gc_relocate(
+                local,
+                alloc,
+                result.bytes,
+                *token,
+                *base,
+                *derived,
+                insts,
+                lost,
+            ),
             Reading::Cast {
                 result,
                 from,
                 value,
                 to,
                 ..
-            } => self.cast(alloc, result, *from, value, *to, insts, lost),
+            } => self.cast(alloc, result.bytes, *from, value, *to, insts, lost),
             Reading::Case {
                 width,
                 value,
                 label,
             } => {
-                case(local, *width, value, label, lost);
+                case(local, *width, value, label.bytes, lost);
                 Ok(())
             }
             _ => Ok(()),

@@ -40,7 +40,7 @@ fn is_unknown(names: &Names, one: &Passed) -> bool
 {
     match one {
         Passed::Value(_, _) => false,
-        Passed::Function(name) => names.find(name).is_none(),
+        Passed::Function(name) => names.find(name.bytes).is_none(),
     }
 }
 
@@ -169,7 +169,7 @@ impl Scope<'_, '_, '_, '_> {
     {
         match passed {
             Passed::Value(_, _) => false,
-            Passed::Function(name) => is_task(self.top.head(name)),
+            Passed::Function(name) => is_task(self.top.head(name.bytes)),
         }
     }
 
@@ -247,7 +247,7 @@ impl Scope<'_, '_, '_, '_> {
         self.call_agrees(
             head,
             call.function_type.answer,
-            call.callee,
+            call.callee.bytes,
             call.passed.as_slice(),
         ) && spells_type(head, call)
     }
@@ -258,7 +258,7 @@ impl Scope<'_, '_, '_, '_> {
             (after_named self.now.top.now.heads ((seen_guarded call.now).callee ∷ filter_map passed_function (seen_guarded call.now).passed) lost.old) }
     {
         let heads = &self.top.heads;
-        let place = heads.find(call.callee);
+        let place = heads.find(call.callee.bytes);
         lost.unknown = unknown_behind(
             heads,
             call.passed.as_slice(),

@@ -40,7 +40,7 @@ pub(crate) fn fits(local: &Local, ty: TypeWord, value: &Value) -> bool
     ensures { result ≡ fits_in local.now.values local.now.types.items ty (seen_value value.now) }
 {
     match value {
-        Value::Local(name) => type_fits(ty, local.type_of(name)),
+        Value::Local(name) => type_fits(ty, local.type_of(name.bytes)),
         Value::Number(literal) => literal_fits(ty, *literal),
         Value::Truth(_) => same_type(ty, TypeWord::Int(1)),
         Value::Null => takes_null(ty),

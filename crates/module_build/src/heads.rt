@@ -63,7 +63,7 @@ fn keep_layout(
 {
     match &line.reading {
         Reading::Layout { name, fields } => {
-            let made = layout_of(alloc, name, fields.as_slice())?;
+            let made = layout_of(alloc, name.bytes, fields.as_slice())?;
             layouts.push(made)?;
             Ok(())
         }

@@ -47,7 +47,7 @@ pub(crate) fn operand(local: &Local, ty: TypeWord, value: &Value, lost: &mut Los
 {
     match value {
         Value::Local(name) => {
-            let place = local.values.find(name);
+            let place = local.values.find(name.bytes);
             lost.unknown = place.is_none() || lost.unknown;
             Operand::Value(ValueId(number_of(place)))
         }

@@ -1,18 +1,19 @@
 -- What stands at the slots of a form, as parts that pass what each slot asks.
 use Rattle.std.proofs.Common.{◌≡◌, ◌∙◌, ℕ, zero, suc, refl, sym, ap, subst, Bool, true, false, ◌&&◌, List, [], ◌∷◌, ◌++◌, length, arith}
-use Rattle.std.specs.Prelude.{nat_le, codes, if◌then◌else◌, Option, Some, None}
+use Rattle.std.specs.Prelude.{nat_le, codes, drop, if◌then◌else◌, Option, Some, None}
 use Rattle.std.specs.List.{list_all}
 use Rattle.std.proofs.lemmas.Bool.{and_from, le-leb}
-use Rattle.sp_text.specs.Tokens.{Tok}
+use Rattle.sp_text.specs.Tokens.{Tok, tok, is_name}
+use Rattle.sp_text.specs.declared.tokens.Kind.TheVariants as kinds
 use Rattle.ir_ast.specs.declared.ops.Pred.{Pred}
 use Rattle.line_parts.specs.declared.readings.TypeWord.{TypeWord}
 use Rattle.line_parts.specs.declared.readings.TypeWord.TheVariants as types
-use Rattle.line_parts.specs.Gives.{Found, after}
+use Rattle.line_parts.specs.Gives.{Found, after, one_at, with_rest}
 use Rattle.line_tokens.specs.declared.words.Dropped.TheVariants as drops
 use Rattle.line_tokens.specs.declared.literals.Literal.{Literal}
 use Rattle.line_tokens.specs.Families.{is_result_of}
 use Rattle.line_parts.specs.Groups.{begins_argument, handed_at, suffix_of, named_result, result_at}
-use Rattle.line_tokens.specs.Marks.{is_mark, begins}
+use Rattle.line_tokens.specs.Marks.{is_mark, local_of, global_of, begins}
 use Rattle.line_parts.specs.Drops.{past, past_all}
 use Rattle.line_parts.specs.Parts.{Val, mark_at, name_if_any, global_at, value_at, spelled_type_at, allowed_type_at, case_value_at, is_value_type, is_answer_type, is_scalar_type, is_case_value}
 use Rattle.line_parts.specs.Lists.{Named, Given, given, function, at_most_at, listed_at, list_to, comma, is_argument_type, argument_at, arguments_at, is_task_start, head_at, given_behind, passed_at, all_passed_at, called_at, entry_at, begins_entry}
@@ -68,6 +69,42 @@ allowed-type allows ts ty rest e = chosen allows (spelled_type_at ts) ty rest e
 case-value : (ts : List Tok) (value : Val) (rest : List Tok) → case_value_at ts ≡ Some (value, rest) → is_case_value value ≡ true
 unfolding case_value_at
 case-value ts value rest e = chosen is_case_value (value_at ts) value rest e
+
+-- ---- names
+
+abbrev pub is_named : Option (List ℕ) → Bool
+is_named None = true
+is_named (Some name) = is_name name
+
+named-is : (bytes : List ℕ) (b : Bool) → is_name bytes ≡ b → is_named (if b then Some bytes else None) ≡ true
+named-is bytes true e = e
+named-is bytes false e = refl
+
+local-named : (t : Tok) → is_named (local_of t) ≡ true
+local-named (tok kinds.Local bytes) = named-is (drop 1 bytes) (is_name (drop 1 bytes)) refl
+local-named t = refl
+
+global-named : (t : Tok) → is_named (global_of t) ≡ true
+global-named (tok kinds.Global bytes) = named-is (drop 1 bytes) (is_name (drop 1 bytes)) refl
+global-named t = refl
+
+one-name : (says : Tok → Option (List ℕ)) → ((t : Tok) → is_named (says t) ≡ true)
+    → (ts : List Tok) (name : List ℕ) (rest : List Tok) → one_at says ts ≡ Some (name, rest) → is_name name ≡ true
+unfolding one_at
+one-name says all [] name rest e = absurd (let bad : None ≡ found name rest = e in cc)
+one-name says all (t ∷ ts) name rest e = by (says t) (all t) e
+  where
+    by : (o : Option (List ℕ)) → is_named o ≡ true → with_rest ts o ≡ Some (name, rest) → is_name name ≡ true
+    by None h e = absurd (let bad : None ≡ found name rest = e in cc)
+    by (Some bytes) h e = tells is_name bytes name ts rest e h
+
+if_any-named : (ts : List Tok) → is_named (name_if_any ts).0 ≡ true
+if_any-named [] = refl
+if_any-named (t ∷ ts) = by (local_of t) (local-named t)
+  where
+    by : (o : Option (List ℕ)) → is_named o ≡ true → is_named (let p : Option (List ℕ) × List Tok = elim o [ None ↦ (None, t ∷ ts) | Some name ↦ (Some name, ts) ] in p).0 ≡ true
+    by None h = refl
+    by (Some name) h = h
 
 -- ---- lists
 
@@ -129,20 +166,24 @@ list-all test element closing one ts xs rest e = list-by test element one (begin
 
 -- ---- heads and calls
 
-argument-type : (plain : Bool) (ts : List Tok) (one : Named) (rest : List Tok) → argument_at plain ts ≡ Some (one, rest) → is_argument_type plain one.ty ≡ true
+abbrev pub is_argument : Bool → Named → Bool
+is_argument plain one = is_argument_type plain one.ty && is_named one.name
+
+argument-is : (plain : Bool) (ts : List Tok) (one : Named) (rest : List Tok) → argument_at plain ts ≡ Some (one, rest) → is_argument plain one ≡ true
 unfolding argument_at
-argument-type plain ts one rest e =
+argument-is plain ts one rest e =
     let h = went (allowed_type_at (is_argument_type plain) ts) (λ ty ts.
     let named = name_if_any (past_all drops.Groups ts) in Some (record { ty = ty; name = named.0 }, named.1)) (one, rest) e in
     let named = name_if_any (past_all drops.Groups h.rest) in
-    tells (λ (a : Named). is_argument_type plain a.ty) (record { ty = h.x; name = named.0 }) one named.1 rest h.more (allowed-type (is_argument_type plain) ts h.x h.rest h.is)
+    tells (is_argument plain) (record { ty = h.x; name = named.0 }) one named.1 rest h.more
+    (and_from (is_argument_type plain h.x) (is_named named.0) (allowed-type (is_argument_type plain) ts h.x h.rest h.is) (if_any-named (past_all drops.Groups h.rest)))
 
 abbrev takes : List ℕ × List Named → Bool
-takes head = list_all (λ one. is_argument_type false one.ty) head.1
+takes head = is_name head.0 && list_all (is_argument false) head.1
 
-head-types : (ts : List Tok) (head : List ℕ × List Named) (rest : List Tok) → head_at false ts ≡ Some (head, rest) → takes head ≡ true
+head-is : (ts : List Tok) (head : List ℕ × List Named) (rest : List Tok) → head_at false ts ≡ Some (head, rest) → takes head ≡ true
 unfolding head_at
-head-types ts head rest e =
+head-is ts head rest e =
     let a = went (global_at ts) (λ name ts. after (mark_at (codes "(") ts) (λ _ ts.
     after (arguments_at false ts) (λ arguments ts. after (mark_at (codes ")") ts) (λ _ ts.
     Some ((name, arguments), ts))))) (head, rest) e in
@@ -153,7 +194,8 @@ head-types ts head rest e =
     Some ((a.x, arguments), ts))) (head, rest) b.more in
     let d = went (mark_at (codes ")") c.rest) (λ _ ts. Some ((a.x, c.x), ts)) (head, rest) c.more in
     tells takes (a.x, c.x) head d.rest rest d.more
-    (list-all (λ (one : Named). is_argument_type false one.ty) (argument_at false) (codes ")") (argument-type false) b.rest c.x c.rest c.is)
+    (and_from (is_name a.x) (list_all (is_argument false) c.x) (one-name global_of global-named ts a.x a.rest a.is)
+    (list-all (is_argument false) (argument_at false) (codes ")") (argument-is false) b.rest c.x c.rest c.is))
 
 -- what is passed has a type of values
 abbrev pub passes : Given → Bool
@@ -233,8 +275,8 @@ has_entry entries = nat_le 1 (length entries)
 
 abbrev At : Slot → Type 0 → Type 0
 At a_family_answer rest = Option TypeWord × rest
-At a_local rest = List ℕ × rest
-At a_layout_name rest = List ℕ × rest
+At a_local rest = Passing is_name × rest
+At a_layout_name rest = Passing is_name × rest
 At a_width rest = ℕ × rest
 At a_type rest = Passing is_value_type × rest
 At an_answer rest = Passing is_answer_type × rest
@@ -267,8 +309,8 @@ Parts (s ∷ f) = At s (Parts f)
 
 abbrev saying : (s : Slot) (f : Type 0) → (f → List Item) → At s f → List Item
 saying a_family_answer f rest a = items.family_answer a.0 ∷ rest a.1
-saying a_local f rest a = items.name a.0 ∷ rest a.1
-saying a_layout_name f rest a = items.layout_name a.0 ∷ rest a.1
+saying a_local f rest a = items.name a.0.x ∷ rest a.1
+saying a_layout_name f rest a = items.layout_name a.0.x ∷ rest a.1
 saying a_width f rest a = items.width a.0 ∷ rest a.1
 saying a_type f rest a = items.ty a.0.x ∷ rest a.1
 saying an_answer f rest a = items.ty a.0.x ∷ rest a.1
@@ -344,8 +386,8 @@ part_told : (s : Slot) (f : List Slot) (ts : List Tok) (here more : List Item) (
     → (a : Parts f) → items_of f a ≡ more → Told (Parts (s ∷ f)) (items_of (s ∷ f)) (here ++ more)
 unfolding part
 part_told a_family_answer f ts here more behind e a is = told (items_of f) a here more behind is items.family_answer _ e
-part_told a_local f ts here more behind e a is = told (items_of f) a here more behind is items.name _ e
-part_told a_layout_name f ts here more behind e a is = told (items_of f) a here more behind is items.layout_name _ e
+part_told a_local f ts here more behind e a is = tested (items_of f) a here more behind is is_name items.name _ (one-name local_of local-named ts) e
+part_told a_layout_name f ts here more behind e a is = tested (items_of f) a here more behind is is_name items.layout_name _ (one-name local_of local-named ts) e
 part_told a_width f ts here more behind e a is = told (items_of f) a here more behind is items.width _ e
 part_told a_type f ts here more behind e a is = tested (items_of f) a here more behind is is_value_type items.ty _ (allowed-type is_value_type ts) e
 part_told an_answer f ts here more behind e a is = tested (items_of f) a here more behind is is_answer_type items.ty _ (allowed-type is_answer_type ts) e
@@ -361,7 +403,7 @@ part_told some_entries f ts here more behind e a is =
     tested (items_of f) a here more behind is has_entry items.entries _ (λ xs left h. (listed (λ (one : Val × List ℕ). true) entry_at begins_entry (λ ts one rest k. refl) ts xs left h).some) e
 part_told a_declared f ts here more behind e a is = told (items_of f) a here more behind is (λ (head : List ℕ × List Named). items.declared head.0 head.1) _ e
 part_told a_defined f ts here more behind e a is =
-    tested (items_of f) a here more behind is takes (λ (head : List ℕ × List Named). items.defined head.0 head.1) _ (head-types ts) e
+    tested (items_of f) a here more behind is takes (λ (head : List ℕ × List Named). items.defined head.0 head.1) _ (head-is ts) e
 part_told a_called f ts here more behind e a is =
     tested (items_of f) a here more behind is all_pass (λ (call : List ℕ × List Given). items.called call.0 call.1) _ (called-types ts) e
 part_told a_strategy f ts here more behind e a is = told (items_of f) a here more behind is items.strategy _ e

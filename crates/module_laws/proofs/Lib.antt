@@ -21,5 +21,4 @@ pub mod ReadTexts
 pub mod ReadCounts
 pub mod ReadTypes
 pub mod ReadLaw
-pub mod ReadNames
 pub mod TypedTexts

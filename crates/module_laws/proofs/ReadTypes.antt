@@ -1,11 +1,13 @@
 -- What a line of a text says, by what stands at its slots, its limits and its names.
-use Rattle.std.proofs.Common.{◌≡◌, ℕ, refl, subst, true, false, ◌&&◌, List, [], ◌∷◌, length, Some}
+use Rattle.std.proofs.Common.{◌≡◌, ℕ, refl, subst, Bool, true, false, ◌&&◌, if◌then◌else◌, List, [], ◌∷◌, length, Option, Some, None}
 use Rattle.std.specs.Prelude.{nat_le, slice_get}
-use Rattle.std.specs.List.{AllByRecursion, list_all}
+use Rattle.std.specs.List.{AllByRecursion, list_all, list_any, before_first, after_first}
 use Rattle.std.proofs.lemmas.Bool.{leb-true}
 use Rattle.std.proofs.lemmas.List.Elements.{All-from_recursion}
 use Rattle.sp_text.specs.Bytes.{after_blanks}
-use Rattle.sp_text.specs.Tokens.{tokens}
+use Rattle.sp_text.specs.Labels.{is_label, label_in, is_colon}
+use Rattle.sp_text.specs.Tokens.{tokens, is_name, says_nothing}
+use Rattle.ir_cfg.specs.Limits.{IsName}
 use Rattle.ir_ast.specs.Widths.{IsWidth}
 use Rattle.line_parts.specs.declared.readings.TypeWord.{TypeWord}
 use Rattle.line_parts.specs.declared.readings.TypeWord.TheVariants.{Void, Int, Managed, Plain}
@@ -14,15 +16,14 @@ use Rattle.line_parts.specs.Lists.{Named, Given, given, function, is_argument_ty
 use Rattle.line_forms.specs.declared.forms.Form.{Form}
 use Rattle.line_forms.specs.declared.forms.Form.TheVariants as forms
 use Rattle.line_forms.specs.Forms.{slots, is_dropped_form}
-use Rattle.line_forms.specs.Slots.{Item, parse}
+use Rattle.line_forms.specs.Slots.{Item}
 use Rattle.line_forms.specs.Seen.{Said, label, line}
 use Rattle.line_forms.proofs.FamilyLines.{fit_parts}
 use Rattle.ir_reader.specs.Limits.{width_fits, type_fits, value_fits, argument_fits, given_fits, name_fits, literal_fits, live_fits, item_fits, said_fits}
 use Rattle.ir_lines.specs.Statements.{of_form, stated}
 use Rattle.ir_lines.specs.ReadLines.{IsValueType, IsAnswerType, IsNameIfAny, IsReadArgument, IsReadPassed, SaysRead}
 use Rattle.module_laws.proofs.Runs.{IsSpelled, IsKept, both}
-use Rattle.module_laws.proofs.Formed.{Parts, items_of, parse_told, passes}
-use Rattle.module_laws.proofs.ReadNames.{result_named, layout_named, head_named, label_name}
+use Rattle.module_laws.proofs.Formed.{Parts, items_of, is_named, is_argument, parse_told, passes}
 
 width_is : (width : ℕ) → width_fits width ≡ true → IsWidth width
 width_is width e = let b = both (nat_le 1 width) (nat_le width 64) e in (leb-true 1 width b.0, leb-true width 64 b.1)
@@ -45,13 +46,18 @@ argument_type Managed e = refl
 argument_type Void e = absurd (let bad : false ≡ true = e in cc)
 argument_type Plain e = absurd (let bad : false ≡ true = e in cc)
 
-arguments_read : (arguments : List Named) → list_all (λ one. is_argument_type false one.ty) arguments ≡ true → list_all argument_fits arguments ≡ true
-    → AllByRecursion (λ one. IsNameIfAny one.name) arguments → AllByRecursion IsReadArgument arguments
-arguments_read [] e f names = tt
-arguments_read (one ∷ more) e f names =
-    let a = both (is_argument_type false one.ty) (list_all (λ (x : Named). is_argument_type false x.ty) more) e in
+name_read : (name : Option (List ℕ)) → is_named name ≡ true → IsNameIfAny name
+name_read None e = tt
+name_read (Some name) e = e
+
+arguments_read : (arguments : List Named) → list_all (is_argument false) arguments ≡ true → list_all argument_fits arguments ≡ true
+    → AllByRecursion IsReadArgument arguments
+arguments_read [] e f = tt
+arguments_read (one ∷ more) e f =
+    let a = both (is_argument false one) (list_all (is_argument false) more) e in
     let b = both (argument_fits one) (list_all argument_fits more) f in
-    ((value_type one.ty (argument_type one.ty a.0) b.0, names.0), arguments_read more a.1 b.1 names.1)
+    let c = both (is_argument_type false one.ty) (is_named one.name) a.0 in
+    ((value_type one.ty (argument_type one.ty c.0) b.0, name_read one.name c.1), arguments_read more a.1 b.1)
 
 given_read : (one : Given) → passes one ≡ true → given_fits one ≡ true → IsReadPassed one
 given_read (given ty v) e f = value_type ty e (both (type_fits ty) (value_fits v) f).0
@@ -65,59 +71,58 @@ passed_read (one ∷ more) e f =
     (given_read one a.0 b.0, passed_read more a.1 b.1)
 
 -- what stands at the slots of a form, within the limits
-says_read : (form : Form) → is_dropped_form form ≡ false → (bytes : List ℕ) (a : Parts (slots form)) → parse (slots form) (tokens bytes) ≡ Some (items_of (slots form) a, [])
-    → list_all item_fits (items_of (slots form) a) ≡ true → SaysRead (of_form form (slice_get (items_of (slots form) a)))
-says_read (forms.Dropped which) kept bytes a e f = absurd (let bad : true ≡ false = kept in cc)
-says_read forms.Layout kept bytes a e f =
-    let b = both (name_fits a.0) _ f in
+says_read : (form : Form) → is_dropped_form form ≡ false → (a : Parts (slots form)) → list_all item_fits (items_of (slots form) a) ≡ true → SaysRead (of_form form (slice_get (items_of (slots form) a)))
+says_read (forms.Dropped which) kept a f = absurd (let bad : true ≡ false = kept in cc)
+says_read forms.Layout kept a f =
+    let b = both (name_fits a.0.x) _ f in
     let c = both (nat_le (length a.1.0) 64 && list_all type_fits a.1.0) _ b.1 in
-    (layout_named _ bytes a.0 _ [] e, leb-true (length a.0) 4096 b.0, leb-true (length a.1.0) 64 (both (nat_le (length a.1.0) 64) (list_all type_fits a.1.0) c.0).0)
-says_read forms.Define kept bytes a e f =
+    (a.0.is, leb-true (length a.0.x) 4096 b.0, leb-true (length a.1.0) 64 (both (nat_le (length a.1.0) 64) (list_all type_fits a.1.0) c.0).0)
+says_read forms.Define kept a f =
     let n = a.1.0.x.0 in
     let arguments = a.1.0.x.1 in
     let b = both (type_fits a.0.x) _ f in
     let c = both (name_fits n && nat_le (length arguments) 64 && list_all argument_fits arguments) _ b.1 in
     let d = both (name_fits n && nat_le (length arguments) 64) (list_all argument_fits arguments) c.0 in
     let g = both (name_fits n) (nat_le (length arguments) 64) d.0 in
-    let names = head_named bytes a.0.x n arguments _ [] e in
+    let h = both (is_name n) (list_all (is_argument false) arguments) a.1.0.is in
     record {
       answered = answer_type a.0.x a.0.is b.0;
-      named = names.0;
+      named = h.0;
       short = leb-true (length n) 4096 g.0;
       few = leb-true (length arguments) 64 g.1;
-      each = All-from_recursion IsReadArgument arguments (arguments_read arguments a.1.0.is d.1 names.1);
+      each = All-from_recursion IsReadArgument arguments (arguments_read arguments h.1 d.1);
     }
-says_read (forms.Binary op) kept bytes a e f = (result_named _ bytes a.0 _ [] e, width_is a.1.0 (both (width_fits a.1.0) _ f).0)
-says_read forms.Compare kept bytes a e f = (result_named _ bytes a.0 _ [] e, value_type a.1.1.0.x a.1.1.0.is (both (type_fits a.1.1.0.x) _ f).0)
-says_read (forms.Convert op) kept bytes a e f =
+says_read (forms.Binary op) kept a f = (a.0.is, width_is a.1.0 (both (width_fits a.1.0) _ f).0)
+says_read forms.Compare kept a f = (a.0.is, value_type a.1.1.0.x a.1.1.0.is (both (type_fits a.1.1.0.x) _ f).0)
+says_read (forms.Convert op) kept a f =
     let b = both (width_fits a.1.0) _ f in
     let c = both (value_fits a.1.1.0) _ b.1 in
-    (result_named _ bytes a.0 _ [] e, width_is a.1.0 b.0, width_is a.1.1.1.0 (both (width_fits a.1.1.1.0) true c.1).0)
-says_read forms.Select kept bytes a e f =
+    (a.0.is, width_is a.1.0 b.0, width_is a.1.1.1.0 (both (width_fits a.1.1.1.0) true c.1).0)
+says_read forms.Select kept a f =
     let b = both (value_fits a.1.0) _ f in
-    (result_named _ bytes a.0 _ [] e, value_type a.1.1.0.x a.1.1.0.is (both (type_fits a.1.1.0.x) _ b.1).0)
-says_read forms.Phi kept bytes a e f =
-    (result_named _ bytes a.0 _ [] e, value_type a.1.0.x a.1.0.is (both (type_fits a.1.0.x) _ f).0, leb-true 1 (length a.1.1.0.x) a.1.1.0.is)
-says_read forms.ScalarElement kept bytes a e f =
+    (a.0.is, value_type a.1.1.0.x a.1.1.0.is (both (type_fits a.1.1.0.x) _ b.1).0)
+says_read forms.Phi kept a f =
+    (a.0.is, value_type a.1.0.x a.1.0.is (both (type_fits a.1.0.x) _ f).0, leb-true 1 (length a.1.1.0.x) a.1.1.0.is)
+says_read forms.ScalarElement kept a f =
     let b = both (value_fits a.1.1.0) _ f in
-    (result_named _ bytes a.0 _ [] e, width_is a.1.1.1.0 (both (width_fits a.1.1.1.0) _ b.1).0, a.1.0.is)
-says_read forms.LayoutElement kept bytes a e f =
+    (a.0.is, width_is a.1.1.1.0 (both (width_fits a.1.1.1.0) _ b.1).0, a.1.0.is)
+says_read forms.LayoutElement kept a f =
     let b = both (value_fits a.1.1.0) _ f in
-    (result_named _ bytes a.0 _ [] e, width_is a.1.1.1.0 (both (width_fits a.1.1.1.0) _ b.1).0)
-says_read forms.Load kept bytes a e f = (result_named _ bytes a.0 _ [] e, value_type a.1.0.x a.1.0.is (both (type_fits a.1.0.x) _ f).0)
-says_read forms.Store kept bytes a e f = value_type a.0.x a.0.is (both (type_fits a.0.x) _ f).0
-says_read forms.ValueCall kept bytes a e f =
+    (a.0.is, width_is a.1.1.1.0 (both (width_fits a.1.1.1.0) _ b.1).0)
+says_read forms.Load kept a f = (a.0.is, value_type a.1.0.x a.1.0.is (both (type_fits a.1.0.x) _ f).0)
+says_read forms.Store kept a f = value_type a.0.x a.0.is (both (type_fits a.0.x) _ f).0
+says_read forms.ValueCall kept a f =
     let passed = a.1.1.0.x.1 in
     let b = both (type_fits a.1.0.x) _ f in
     let c = both (list_all given_fits passed) true b.1 in
-    ((result_named _ bytes a.0 _ [] e, value_type a.1.0.x a.1.0.is b.0), All-from_recursion IsReadPassed passed (passed_read passed a.1.1.0.is c.0))
-says_read forms.VoidCall kept bytes a e f =
+    ((a.0.is, value_type a.1.0.x a.1.0.is b.0), All-from_recursion IsReadPassed passed (passed_read passed a.1.1.0.is c.0))
+says_read forms.VoidCall kept a f =
     let passed = a.0.x.1 in
     (refl, All-from_recursion IsReadPassed passed (passed_read passed a.0.is (both (list_all given_fits passed) true f).0))
-says_read forms.Switch kept bytes a e f = width_is a.0 (both (width_fits a.0) _ f).0
-says_read forms.Case kept bytes a e f = a.1.0.is
-says_read forms.Return kept bytes a e f = value_type a.0.x a.0.is (both (type_fits a.0.x) _ f).0
-says_read forms.Statepoint kept bytes a e f =
+says_read forms.Switch kept a f = width_is a.0 (both (width_fits a.0) _ f).0
+says_read forms.Case kept a f = a.1.0.is
+says_read forms.Return kept a f = value_type a.0.x a.0.is (both (type_fits a.0.x) _ f).0
+says_read forms.Statepoint kept a f =
     let answer = a.1.1.0 in
     let passed = a.1.1.1.1.1.1.0 in
     let live = a.1.1.1.1.1.1.1.0 in
@@ -128,19 +133,31 @@ says_read forms.Statepoint kept bytes a e f =
     let h = both (list_all given_fits passed.x) _ g.1 in
     let i = both (live_fits live) true h.1 in
     record {
-      named = result_named _ bytes a.0 _ [] e;
+      named = a.0.is;
       answered = answer_type answer.x answer.is c.0;
       passed = All-from_recursion IsReadPassed passed.x (passed_read passed.x passed.is h.0);
       few = leb-true (length live) 16384 (both (nat_le (length live) 16384) (list_all value_fits live) i.0).0;
     }
-says_read forms.GcResult kept bytes a e f = (result_named _ bytes a.0 _ [] e, value_type a.1.0.x a.1.0.is (both (type_fits a.1.0.x) _ f).0)
-says_read forms.GcRelocate kept bytes a e f = result_named _ bytes a.0 _ [] e
-says_read form kept bytes a e f = tt
+says_read forms.GcResult kept a f = (a.0.is, value_type a.1.0.x a.1.0.is (both (type_fits a.1.0.x) _ f).0)
+says_read forms.GcRelocate kept a f = a.0.is
+says_read form kept a f = tt
+
+-- the name of a label line
+label_name : (bs name : List ℕ) → label_in bs ≡ Some name → IsName name
+label_name bs name e = by (is_label bs) refl e
+  where
+    first : List ℕ
+    first = before_first is_colon bs
+
+    by : (b : Bool) → is_label bs ≡ b → (if b then Some first else None) ≡ Some name → IsName name
+    by true is f =
+        let same : first ≡ name = cc in
+        let marked = both (list_any is_colon bs) (is_name first && says_nothing (after_first is_colon bs)) is in
+        subst IsName same (both (is_name first) (says_nothing (after_first is_colon bs)) marked.1).0
+    by false is f = absurd (let bad : None ≡ Some name = f in cc)
 
 pub said_read : (what : Said) → IsKept what → IsSpelled what → said_fits what ≡ true → SaysRead (stated what)
 said_read (label name) kept spelled f = label_name (after_blanks spelled.0) name spelled.1
 said_read (line l) kept spelled f =
-    let fitting = (fit_parts l.form (tokens spelled.0) l.items [] spelled.1).0 in
-    let parts = parse_told (slots l.form) (tokens spelled.0) l.items [] fitting in
-    subst (λ (whole : List Item). parse (slots l.form) (tokens spelled.0) ≡ Some (whole, []) → list_all item_fits whole ≡ true → SaysRead (of_form l.form (slice_get whole)))
-    parts.1 (says_read l.form kept spelled.0 parts.0) fitting f
+    let parts = parse_told (slots l.form) (tokens spelled.0) l.items [] (fit_parts l.form (tokens spelled.0) l.items [] spelled.1).0 in
+    subst (λ (whole : List Item). list_all item_fits whole ≡ true → SaysRead (of_form l.form (slice_get whole))) parts.1 (says_read l.form kept parts.0) f

@@ -73,17 +73,17 @@ in_source reads = record { form_is = reads.form_is; whole = as_fit reads; clean 
 
 -- ---- the function that a call names
 
-first_here : (o : List ℕ) (ts : List Tok) → first_global (tok kinds.Global (64 ∷ o) ∷ ts) ≡ Some o
+first_here : (o : List ℕ) → is_name o ≡ true → (ts : List Tok) → first_global (tok kinds.Global (64 ∷ o) ∷ ts) ≡ Some o
 unfolding first_global
-first_here o ts = refl
+first_here o is ts = rw is refl
 
-pub call_callee : {spelled : List ℕ} {of_type : TypeWord} (t : SpellsType spelled of_type) (o : List ℕ) (ts : List Tok)
+pub call_callee : {spelled : List ℕ} {of_type : TypeWord} (t : SpellsType spelled of_type) (o : List ℕ) → is_name o ≡ true → (ts : List Tok)
     → callee_of (tok kinds.Word (codes "call") ∷ tok kinds.Word t.first ∷ (t.more ++ (tok kinds.Global (64 ∷ o) ∷ ts))) ≡ Some o
 unfolding callee_of
-call_callee t o ts =
+call_callee t o is ts =
     let rest : List Tok = t.more ++ (tok kinds.Global (64 ∷ o) ∷ ts) in
     rw (past_all-none (drops.Words flags.Calling) (tok kinds.Word (codes "call") ∷ tok kinds.Word t.first ∷ rest) refl)
-    (rw (past_all-none drops.Groups (tok kinds.Word t.first ∷ rest) (t.group rest)) (t.global (tok kinds.Global (64 ∷ o) ∷ ts) ∙ first_here o ts))
+    (rw (past_all-none drops.Groups (tok kinds.Word t.first ∷ rest) (t.group rest)) (t.global (tok kinds.Global (64 ∷ o) ∷ ts) ∙ first_here o is ts))
 
 called_plain : (o : List ℕ) → is_family_name o ≡ false → called_form (Some o) ≡ forms.ValueCall
 called_plain o other =
@@ -122,13 +122,13 @@ pub value_call_form : (n : List ℕ) → is_name n ≡ true → {spelled : List 
     → form_in text_forms.Rewritten (tokens (37 ∷ (n ++ (32 ∷ 61 ∷ 32 ∷ (codes "call " ++ (spelled ++ (32 ∷ 64 ∷ (o ++ (40 ∷ rest))))))))) ≡ Some forms.ValueCall
 value_call_form n is {spelled} t o o_is other rest =
     rw (result_tokens n (codes "call " ++ (spelled ++ (32 ∷ 64 ∷ (o ++ (40 ∷ rest))))) is) (rw (call_tokens t o o_is rest)
-    (value_in (37 ∷ n) o (tok kinds.Word t.first ∷ (t.more ++ (tok kinds.Global (64 ∷ o) ∷ tokens (40 ∷ rest)))) (call_callee t o (tokens (40 ∷ rest))) ∙ ap Some (called_plain o other)))
+    (value_in (37 ∷ n) o (tok kinds.Word t.first ∷ (t.more ++ (tok kinds.Global (64 ∷ o) ∷ tokens (40 ∷ rest)))) (call_callee t o o_is (tokens (40 ∷ rest))) ∙ ap Some (called_plain o other)))
 
 -- `call void @f(..)` of another function
 pub void_call_form : (o : List ℕ) → is_name o ≡ true → is_family_name o ≡ false → (rest : List ℕ) → form_of (tokens (codes "call void @" ++ (o ++ (40 ∷ rest)))) ≡ Some forms.VoidCall
     → form_in text_forms.Rewritten (tokens (codes "call void @" ++ (o ++ (40 ∷ rest)))) ≡ Some forms.VoidCall
 void_call_form o is other rest form =
-    void_in o (tokens (codes "call void @" ++ (o ++ (40 ∷ rest)))) form (ap callee_of (call_tokens void_type o is rest) ∙ call_callee void_type o (tokens (40 ∷ rest))) other
+    void_in o (tokens (codes "call void @" ++ (o ++ (40 ∷ rest)))) form (ap callee_of (call_tokens void_type o is rest) ∙ call_callee void_type o is (tokens (40 ∷ rest))) other
 
 -- ---- the function that a declaration names
 
@@ -136,13 +136,13 @@ pub declare_tokens : {spelled : List ℕ} {of_type : TypeWord} (t : SpellsType s
     → tokens (codes "declare " ++ (spelled ++ (32 ∷ 64 ∷ (o ++ (40 ∷ rest))))) ≡ tok kinds.Word (codes "declare") ∷ tok kinds.Word t.first ∷ (t.more ++ (tok kinds.Global (64 ∷ o) ∷ tokens (40 ∷ rest)))
 declare_tokens t o is rest = named_tokens (codes "declare") refl t o is rest
 
-pub declared_name : {spelled : List ℕ} {of_type : TypeWord} (t : SpellsType spelled of_type) (o : List ℕ) (ts : List Tok)
+pub declared_name : {spelled : List ℕ} {of_type : TypeWord} (t : SpellsType spelled of_type) (o : List ℕ) → is_name o ≡ true → (ts : List Tok)
     → declared_of (tok kinds.Word (codes "declare") ∷ tok kinds.Word t.first ∷ (t.more ++ (tok kinds.Global (64 ∷ o) ∷ ts))) ≡ Some o
 unfolding declared_of
-declared_name t o ts =
+declared_name t o is ts =
     let rest : List Tok = t.more ++ (tok kinds.Global (64 ∷ o) ∷ ts) in
     rw (past_all-none drops.HeadAttachments (tok kinds.Word t.first ∷ rest) (word_none t.first rest))
-    (rw (past_all-none drops.Groups (tok kinds.Word t.first ∷ rest) (t.group rest)) (t.global (tok kinds.Global (64 ∷ o) ∷ ts) ∙ first_here o ts))
+    (rw (past_all-none drops.Groups (tok kinds.Word t.first ∷ rest) (t.group rest)) (t.global (tok kinds.Global (64 ∷ o) ∷ ts) ∙ first_here o is ts))
 
 pub declared_by : (o : List ℕ) (ts : List Tok) → declared_of (tok kinds.Word (codes "declare") ∷ ts) ≡ Some o
     → form_in text_forms.Rewritten (tok kinds.Word (codes "declare") ∷ ts) ≡ Some (declared_form (Some o))
@@ -159,7 +159,7 @@ declare_in text_forms.Rewritten {spelled} t o is other rest reads = record { for
     plain = rw other refl
 
     form_is : form_in text_forms.Rewritten (tokens (codes "declare " ++ (spelled ++ (32 ∷ 64 ∷ (o ++ (40 ∷ rest)))))) ≡ Some forms.Declare
-    form_is = rw (declare_tokens t o is rest) (declared_by o (tok kinds.Word t.first ∷ (t.more ++ (tok kinds.Global (64 ∷ o) ∷ tokens (40 ∷ rest)))) (declared_name t o (tokens (40 ∷ rest))) ∙ ap Some plain)
+    form_is = rw (declare_tokens t o is rest) (declared_by o (tok kinds.Word t.first ∷ (t.more ++ (tok kinds.Global (64 ∷ o) ∷ tokens (40 ∷ rest)))) (declared_name t o is (tokens (40 ∷ rest))) ∙ ap Some plain)
 
 -- ---- names of the families
 

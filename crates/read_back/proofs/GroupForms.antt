@@ -140,7 +140,7 @@ result_line n is {spelled} {of_type} t suffix r token token_is = record { form_i
 
     form_is : form_in text_forms.Rewritten (tokens (37 ∷ (n ++ (32 ∷ 61 ∷ 32 ∷ text)))) ≡ Some forms.GcResult
     form_is = rw (result_tokens n text is) (rw (call_tokens t o r.named rest)
-        (value_in (37 ∷ n) o (tok kinds.Word t.first ∷ (t.more ++ (tok kinds.Global (64 ∷ o) ∷ tokens (40 ∷ rest)))) (call_callee t o (tokens (40 ∷ rest))) ∙ ap Some (result_called suffix r.ends)))
+        (value_in (37 ∷ n) o (tok kinds.Word t.first ∷ (t.more ++ (tok kinds.Global (64 ∷ o) ∷ tokens (40 ∷ rest)))) (call_callee t o r.named (tokens (40 ∷ rest))) ∙ ap Some (result_called suffix r.ends)))
 
 -- ---- relocates
 
@@ -171,7 +171,7 @@ relocate_line n is token token_is {base} {derived} {b} {d} s u = record { form_i
 
     form_is : form_in text_forms.Rewritten (tokens (37 ∷ (n ++ (32 ∷ 61 ∷ 32 ∷ text)))) ≡ Some forms.GcRelocate
     form_is = rw (result_tokens n text is) (rw (call_tokens pointer_type o refl rest)
-        (value_in (37 ∷ n) o (tok kinds.Word pointer_type.first ∷ (pointer_type.more ++ (tok kinds.Global (64 ∷ o) ∷ tokens (40 ∷ rest)))) (call_callee pointer_type o (tokens (40 ∷ rest))) ∙ ap Some relocate_called))
+        (value_in (37 ∷ n) o (tok kinds.Word pointer_type.first ∷ (pointer_type.more ++ (tok kinds.Global (64 ∷ o) ∷ tokens (40 ∷ rest)))) (call_callee pointer_type o refl (tokens (40 ∷ rest))) ∙ ap Some relocate_called))
 
 -- ---- declarations of the three families, which are dropped
 
@@ -180,7 +180,7 @@ family_form : {spelled : List ℕ} {answer : TypeWord} (t : SpellsType spelled a
     → form_in text_forms.Rewritten (tokens (codes "declare " ++ (spelled ++ (32 ∷ 64 ∷ (o ++ (40 ∷ rest)))))) ≡ Some (forms.Dropped drop_lines.Family)
 family_form t o named is rest =
     let family : declared_form (Some o) ≡ forms.Dropped drop_lines.Family = rw is refl in
-    rw (declare_tokens t o named rest) (declared_by o (tok kinds.Word t.first ∷ (t.more ++ (tok kinds.Global (64 ∷ o) ∷ tokens (40 ∷ rest)))) (declared_name t o (tokens (40 ∷ rest))) ∙ ap Some family)
+    rw (declare_tokens t o named rest) (declared_by o (tok kinds.Word t.first ∷ (t.more ++ (tok kinds.Global (64 ∷ o) ∷ tokens (40 ∷ rest)))) (declared_name t o named (tokens (40 ∷ rest))) ∙ ap Some family)
 
 -- `declare T @f(..)`
 pub family_line : {spelled : List ℕ} {answer : TypeWord} (t : SpellsType spelled answer) → is_answer_type answer ≡ true → is_word (codes "token") (tok kinds.Word t.first) ≡ false

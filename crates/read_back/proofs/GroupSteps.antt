@@ -49,36 +49,36 @@ blank_then {rest} e = record { is = tokens-blank 32 rest refl ∙ e.is }
 
 -- ---- names of functions
 
-global_part : (n : List ℕ) → bytes_eq n n ≡ true → (ts : List Tok) → part (g n) (tok kinds.Global (64 ∷ n) ∷ ts) ≡ Some ([], ts)
+global_part : (n : List ℕ) → is_name n ≡ true → bytes_eq n n ≡ true → (ts : List Tok) → part (g n) (tok kinds.Global (64 ∷ n) ∷ ts) ≡ Some ([], ts)
 unfolding part after one_at
-global_part n same ts = rw same refl
+global_part n is same ts = rw (is, same) refl
 
 -- the function of this name
 pub global_step : {f : List Slot} {rest : List ℕ} {first : Option Tok} {items : List Item} (n : List ℕ) → is_name n ≡ true → bytes_eq n n ≡ true → Stops rest
     → Reads f rest first items → Reads (g n ∷ f) (64 ∷ (n ++ rest)) (Some (tok kinds.Global (64 ∷ n))) items
-global_step n is same stop r = one (g n) kinds.Global (64 ∷ n) [] is (name-clean n is) stop (global_part n same) r
+global_step n is same stop r = one (g n) kinds.Global (64 ∷ n) [] is (name-clean n is) stop (global_part n is same) r
 
-callee_part : (n : List ℕ) (ts : List Tok) → part a_global (tok kinds.Global (64 ∷ n) ∷ ts) ≡ Some (name n ∷ [], ts)
+callee_part : (n : List ℕ) → is_name n ≡ true → (ts : List Tok) → part a_global (tok kinds.Global (64 ∷ n) ∷ ts) ≡ Some (name n ∷ [], ts)
 unfolding part after one_at
-callee_part n ts = refl
+callee_part n is ts = rw is refl
 
 -- a function
 pub callee_step : {f : List Slot} {rest : List ℕ} {first : Option Tok} {items : List Item} (n : List ℕ) → is_name n ≡ true → Stops rest
     → Reads f rest first items → Reads (a_global ∷ f) (64 ∷ (n ++ rest)) (Some (tok kinds.Global (64 ∷ n))) (name n ∷ items)
-callee_step n is stop r = one a_global kinds.Global (64 ∷ n) (name n ∷ []) is (name-clean n is) stop (callee_part n) r
+callee_step n is stop r = one a_global kinds.Global (64 ∷ n) (name n ∷ []) is (name-clean n is) stop (callee_part n is) r
 
 -- ---- tokens and numbers
 
-token_part : (n : List ℕ) (ts : List Tok) → part a_token (tok kinds.Word (codes "token") ∷ tok kinds.Local (37 ∷ n) ∷ ts) ≡ Some (name n ∷ [], ts)
+token_part : (n : List ℕ) → is_name n ≡ true → (ts : List Tok) → part a_token (tok kinds.Word (codes "token") ∷ tok kinds.Local (37 ∷ n) ∷ ts) ≡ Some (name n ∷ [], ts)
 unfolding part after token_at one_at
-token_part n ts = rw (past_all-none drops.Groups (tok kinds.Local (37 ∷ n) ∷ ts) refl) refl
+token_part n is ts = rw (past_all-none drops.Groups (tok kinds.Local (37 ∷ n) ∷ ts) refl, is) refl
 
 -- `token %t`
 pub token_step : {f : List Slot} {rest : List ℕ} {first : Option Tok} {items : List Item} (n : List ℕ) → is_name n ≡ true → Stops rest
     → Reads f rest first items → Reads (a_token ∷ f) (codes "token %" ++ (n ++ rest)) (Some (tok kinds.Word (codes "token"))) (name n ∷ items)
 token_step {rest = rest} n is stop r =
     step_to a_token (codes "token %" ++ (n ++ rest)) (tok kinds.Word (codes "token")) (tok kinds.Local (37 ∷ n) ∷ tokens rest) (name n ∷ []) (clean-both n rest (name-clean n is) r.clean)
-    (token_then kinds.Word (codes "token") refl refl (blank_then (token_then kinds.Local (37 ∷ n) is stop (as_is rest)))).is (token_part n (tokens rest)) r
+    (token_then kinds.Word (codes "token") refl refl (blank_then (token_then kinds.Local (37 ∷ n) is stop (as_is rest)))).is (token_part n is (tokens rest)) r
 
 number_part : (of_type : List ℕ) → bytes_eq of_type of_type ≡ true → {text : List ℕ} {l : Literal} → SpellsLiteral text l → (ts : List Tok) → part (a_number of_type) (tok kinds.Word of_type ∷ tok kinds.Number text ∷ ts) ≡ Some (literal l ∷ [], ts)
 unfolding part after number_at one_at
@@ -390,10 +390,10 @@ no_live {f} {items} r = record { whole = rw e (rw no_live_part (rw (rw e at r.wh
 -- ---- results
 
 result_part : {text : List ℕ} {word : TypeWord} (t : SpellsType text word) → is_value_type word ≡ true → (suffix n : List ℕ) → ((ts : List Tok) → suffix_of word (tok kinds.Word t.first ∷ ts) ≡ suffix) → is_result_of suffix n ≡ true
-    → (ts : List Tok) → part a_result (tok kinds.Word t.first ∷ (t.more ++ (tok kinds.Global (64 ∷ n) ∷ ts))) ≡ Some (ty word ∷ [], ts)
+    → is_name n ≡ true → (ts : List Tok) → part a_result (tok kinds.Word t.first ∷ (t.more ++ (tok kinds.Global (64 ∷ n) ∷ ts))) ≡ Some (ty word ∷ [], ts)
 unfolding part after result_at one_at
-result_part {text} {word} t allow suffix n same is ts =
-    rw (allowed text word t is_value_type allow (tok kinds.Global (64 ∷ n) ∷ ts)) (rw (same (t.more ++ (tok kinds.Global (64 ∷ n) ∷ ts))) (rw is refl))
+result_part {text} {word} t allow suffix n same of_type is ts =
+    rw (allowed text word t is_value_type allow (tok kinds.Global (64 ∷ n) ∷ ts)) (rw is (rw (same (t.more ++ (tok kinds.Global (64 ∷ n) ∷ ts))) (rw of_type refl)))
 
 -- `T @llvm.experimental.gc.result.S`
 pub result_step : {f : List Slot} {text rest : List ℕ} {word : TypeWord} {first : Option Tok} {items : List Item} (t : SpellsType text word) → is_value_type word ≡ true
@@ -403,7 +403,7 @@ result_step {text = text} {rest = rest} {word = word} t allow suffix n same of_t
     step_to a_result (text ++ (32 ∷ 64 ∷ (n ++ rest))) (tok kinds.Word t.first) (t.more ++ (tok kinds.Global (64 ∷ n) ∷ tokens rest)) (ty word ∷ [])
     (clean-both text (32 ∷ 64 ∷ (n ++ rest)) t.clean (clean-both n rest (name-clean n is) r.clean))
     (t.spelled (32 ∷ 64 ∷ (n ++ rest)) refl ∙ ap (λ ts. tok kinds.Word t.first ∷ (t.more ++ ts)) (blank_then (token_then kinds.Global (64 ∷ n) is stop (as_is rest))).is)
-    (result_part t allow suffix n same of_type (tokens rest)) r
+    (result_part t allow suffix n same of_type is (tokens rest)) r
 
 -- ---- declarations of the three families
 
@@ -424,13 +424,13 @@ token_answer_part ts = refl
 pub token_answer_step : {f : List Slot} {rest : List ℕ} {first : Option Tok} {items : List Item} → Stops rest → Reads f rest first items → Reads (a_family_answer ∷ f) (codes "token" ++ rest) (Some (tok kinds.Word (codes "token"))) (family_answer None ∷ items)
 token_answer_step stop r = one a_family_answer kinds.Word (codes "token") (family_answer None ∷ []) refl refl stop token_answer_part r
 
-family_part : (o : List ℕ) → is_family_name o ≡ true → (ts : List Tok) → part a_family (tok kinds.Global (64 ∷ o) ∷ ts) ≡ Some ([], ts)
+family_part : (o : List ℕ) → is_name o ≡ true → is_family_name o ≡ true → (ts : List Tok) → part a_family (tok kinds.Global (64 ∷ o) ∷ ts) ≡ Some ([], ts)
 unfolding part after one_at
-family_part o is ts = rw is refl
+family_part o named is ts = rw (named, is) refl
 
 pub family_step : {f : List Slot} {rest : List ℕ} {first : Option Tok} {items : List Item} (o : List ℕ) → is_name o ≡ true → is_family_name o ≡ true → Stops rest
     → Reads f rest first items → Reads (a_family ∷ f) (64 ∷ (o ++ rest)) (Some (tok kinds.Global (64 ∷ o))) items
-family_step o named is stop r = one a_family kinds.Global (64 ∷ o) [] named (name-clean o named) stop (family_part o is) r
+family_step o named is stop r = one a_family kinds.Global (64 ∷ o) [] named (name-clean o named) stop (family_part o named is) r
 
 bracketing_part : (ts us : List Tok) → after_bracket 0 ts ≡ Some us → part a_bracketing (tok kinds.Punct (codes "(") ∷ ts) ≡ Some ([], us)
 unfolding part after bracketing_at one_at

@@ -75,11 +75,11 @@ type_form more = refl
 
 -- ---- arguments
 
-argument_says : {text : List ℕ} {of_type : TypeWord} (plain : Bool) (t : SpellsType text of_type) → is_argument_type plain of_type ≡ true → (n : List ℕ) (ts : List Tok)
+argument_says : {text : List ℕ} {of_type : TypeWord} (plain : Bool) (t : SpellsType text of_type) → is_argument_type plain of_type ≡ true → (n : List ℕ) → is_name n ≡ true → (ts : List Tok)
     → argument_at plain (tok kinds.Word t.first ∷ (t.more ++ (tok kinds.Local (37 ∷ n) ∷ ts))) ≡ Some (record { ty = of_type; name = Some n }, ts)
 unfolding argument_at after
-argument_says {text} {of_type} plain t allow n ts =
-    rw (allowed text of_type t (is_argument_type plain) allow (tok kinds.Local (37 ∷ n) ∷ ts)) (rw (past_all-none drops.Groups (tok kinds.Local (37 ∷ n) ∷ ts) refl) refl)
+argument_says {text} {of_type} plain t allow n is ts =
+    rw (allowed text of_type t (is_argument_type plain) allow (tok kinds.Local (37 ∷ n) ∷ ts)) (rw (past_all-none drops.Groups (tok kinds.Local (37 ∷ n) ∷ ts) refl, is) refl)
 
 argument_spelled : {text : List ℕ} {of_type : TypeWord} (t : SpellsType text of_type) (n : List ℕ) → is_name n ≡ true → (rest : List ℕ) → Stops rest
     → tokens ((text ++ (32 ∷ 37 ∷ n)) ++ rest) ≡ tok kinds.Word t.first ∷ (t.more ++ (tok kinds.Local (37 ∷ n) ∷ tokens rest))
@@ -91,7 +91,7 @@ pub argument_element : {text : List ℕ} {of_type : TypeWord} (plain : Bool) →
     → SpellsElement (argument_at plain) comma EndsAtMark (text ++ (32 ∷ 37 ∷ n)) (record { ty = of_type; name = Some n })
 argument_element {text} {of_type} plain t allow n is = record {
   clean = clean-both text (32 ∷ 37 ∷ n) t.clean (name-clean n is);
-  says = λ rest ends. rw (argument_spelled t n is rest ends.stop) (argument_says plain t allow n (tokens rest));
+  says = λ rest ends. rw (argument_spelled t n is rest ends.stop) (argument_says plain t allow n is (tokens rest));
   shorter = λ rest ends. rw (argument_spelled t n is rest ends.stop) (omega (arith, length-append t.more (tok kinds.Local (37 ∷ n) ∷ tokens rest)));
   goes = λ rest ends. goes_by_comma ((text ++ (32 ∷ 37 ∷ n)) ++ rest);
 }
@@ -100,10 +100,10 @@ pub argument_opens : {text : List ℕ} {of_type : TypeWord} (t : SpellsType text
     → begins (is_mark (codes ")")) (tokens ((text ++ (32 ∷ 37 ∷ n)) ++ rest)) ≡ false
 argument_opens t n is rest ends = rw (argument_spelled t n is rest ends.stop) refl
 
-defined_part : (n : List ℕ) (named : List Named) (ts us : List Tok) → list_to (argument_at false) (codes ")") ts ≡ Some (named, tok kinds.Punct (codes ")") ∷ us)
+defined_part : (n : List ℕ) → is_name n ≡ true → (named : List Named) (ts us : List Tok) → list_to (argument_at false) (codes ")") ts ≡ Some (named, tok kinds.Punct (codes ")") ∷ us)
     → part a_defined (tok kinds.Global (64 ∷ n) ∷ tok kinds.Punct (codes "(") ∷ ts) ≡ Some (defined n named ∷ [], us)
 unfolding part after head_at one_at
-defined_part n named ts us e = rw e refl
+defined_part n is named ts us e = rw (is, e) refl
 
 head_clean : (n body rest : List ℕ) → is_name n ≡ true → IsClean body → IsClean rest → IsClean (64 ∷ (n ++ (40 ∷ (body ++ (41 ∷ rest)))))
 head_clean n body rest is inside behind = clean-both n (40 ∷ (body ++ (41 ∷ rest))) (name-clean n is) (clean-both body (41 ∷ rest) inside behind)
@@ -122,7 +122,7 @@ defined_step {rest = rest} n is text said ys each opens r =
     ∙ ap (λ ts. Some (map said ys, ts)) (closing_tokens rest) in
     step_to a_defined _ (tok kinds.Global (64 ∷ n)) _ (defined n (map said ys) ∷ [])
     (head_clean n (joined (codes ", ") (map text ys)) rest is (list_clean (argument_at false) comma EndsAtMark text said (λ y rest e ends. at_comma (text y ++ rest)) ys each) r.clean) (head_tokens n is (joined (codes ", ") (map text ys) ++ (41 ∷ rest)))
-    (defined_part n (map said ys) _ (tokens rest) found) r
+    (defined_part n is (map said ys) _ (tokens rest) found) r
 
 define_form : (more : List Tok) → word_form (codes "define") more ≡ Some forms.Define
 unfolding word_form
@@ -185,10 +185,10 @@ pub passed_opens : {text bytes : List ℕ} {of_type : TypeWord} {v : Val} (t : S
     → begins (is_mark (codes ")")) (tokens ((text ++ (32 ∷ bytes)) ++ rest)) ≡ false
 passed_opens t s rest ends = rw (passed_spelled t s rest ends.stop) refl
 
-called_part : (n : List ℕ) (all : List Given) (ts us : List Tok) → list_to (passed_at (is_task_start n)) (codes ")") ts ≡ Some (all, tok kinds.Punct (codes ")") ∷ us)
+called_part : (n : List ℕ) → is_name n ≡ true → (all : List Given) (ts us : List Tok) → list_to (passed_at (is_task_start n)) (codes ")") ts ≡ Some (all, tok kinds.Punct (codes ")") ∷ us)
     → part a_called (tok kinds.Global (64 ∷ n) ∷ tok kinds.Punct (codes "(") ∷ ts) ≡ Some (called n all ∷ [], us)
 unfolding part after called_at one_at
-called_part n all ts us e = rw e refl
+called_part n is all ts us e = rw (is, e) refl
 
 pub called_step : {f : List Slot} {rest : List ℕ} {first : Option Tok} {items : List Item} {Y : Type 0} (n : List ℕ) → is_name n ≡ true → (text : Y → List ℕ) (said : Y → Given) (ys : List Y)
     → All (λ y. SpellsElement (passed_at (is_task_start n)) comma EndsAtMark (text y) (said y)) ys
@@ -200,7 +200,7 @@ called_step {rest = rest} n is text said ys each opens r =
     ∙ ap (λ ts. Some (map said ys, ts)) (closing_tokens rest) in
     step_to a_called _ (tok kinds.Global (64 ∷ n)) _ (called n (map said ys) ∷ [])
     (head_clean n (joined (codes ", ") (map text ys)) rest is (list_clean (passed_at (is_task_start n)) comma EndsAtMark text said (λ y rest e ends. at_comma (text y ++ rest)) ys each) r.clean) (head_tokens n is (joined (codes ", ") (map text ys) ++ (41 ∷ rest)))
-    (called_part n (map said ys) _ (tokens rest) found) r
+    (called_part n is (map said ys) _ (tokens rest) found) r
 
 value_call_form : (more : List Tok) → named_form (codes "call") more ≡ Some forms.ValueCall
 unfolding named_form
@@ -245,10 +245,10 @@ entry_tokens {bytes} s l is rest =
     ∙ ap (λ ts. tok kinds.Local (37 ∷ l) ∷ ts) (tokens-blank 32 (93 ∷ rest) refl
     ∙ tokens-spelled kinds.Punct (codes "]") rest refl (anywhere rest))))))
 
-entry_says : {bytes : List ℕ} {v : Val} (s : SpellsValue bytes v) (l : List ℕ) (ts : List Tok)
+entry_says : {bytes : List ℕ} {v : Val} (s : SpellsValue bytes v) (l : List ℕ) → is_name l ≡ true → (ts : List Tok)
     → entry_at (tok kinds.Punct (codes "[") ∷ tok s.kind bytes ∷ tok kinds.Punct (codes ",") ∷ tok kinds.Local (37 ∷ l) ∷ tok kinds.Punct (codes "]") ∷ ts) ≡ Some ((v, l), ts)
 unfolding entry_at after one_at
-entry_says s l ts = rw s.says refl
+entry_says s l is ts = rw (s.says, is) refl
 
 entry_shape : (bytes l rest : List ℕ) → (91 ∷ 32 ∷ (bytes ++ (44 ∷ 32 ∷ 37 ∷ (l ++ (32 ∷ 93 ∷ []))))) ++ rest ≡ 91 ∷ 32 ∷ (bytes ++ (44 ∷ 32 ∷ 37 ∷ (l ++ (32 ∷ 93 ∷ rest))))
 entry_shape bytes l rest = simp append_assoc
@@ -260,7 +260,7 @@ pub entry_element : {bytes : List ℕ} {v : Val} → SpellsValue bytes v → (l 
     → SpellsElement entry_at begins_entry Anything (91 ∷ 32 ∷ (bytes ++ (44 ∷ 32 ∷ 37 ∷ (l ++ (32 ∷ 93 ∷ []))))) (v, l)
 entry_element {bytes} {v} s l is = record {
   clean = clean-both bytes (44 ∷ 32 ∷ 37 ∷ (l ++ (32 ∷ 93 ∷ []))) s.clean (clean-both l (32 ∷ 93 ∷ []) (name-clean l is) refl);
-  says = λ rest ends. rw (entry_shape bytes l rest) (rw (entry_tokens s l is rest) (entry_says s l (tokens rest)));
+  says = λ rest ends. rw (entry_shape bytes l rest) (rw (entry_tokens s l is rest) (entry_says s l is (tokens rest)));
   shorter = λ rest ends. rw (entry_shape bytes l rest) (rw (entry_tokens s l is rest) (omega arith));
   goes = λ rest ends. rw (entry_shape bytes l rest) (rw (comma_spelled (91 ∷ 32 ∷ (bytes ++ (44 ∷ 32 ∷ 37 ∷ (l ++ (32 ∷ 93 ∷ rest)))))) (rw (entry_tokens s l is rest) refl));
 }
@@ -363,10 +363,10 @@ plain_element = record {
 pub plain_opens : (rest : List ℕ) → EndsAtMark rest → begins (is_mark (codes ")")) (tokens (codes "ptr" ++ rest)) ≡ false
 plain_opens rest ends = rw (plain_spelled rest ends.stop) refl
 
-declared_part : (n : List ℕ) (named : List Named) (ts us : List Tok) → list_to (argument_at (is_task_start n)) (codes ")") ts ≡ Some (named, tok kinds.Punct (codes ")") ∷ us)
+declared_part : (n : List ℕ) → is_name n ≡ true → (named : List Named) (ts us : List Tok) → list_to (argument_at (is_task_start n)) (codes ")") ts ≡ Some (named, tok kinds.Punct (codes ")") ∷ us)
     → part a_declared (tok kinds.Global (64 ∷ n) ∷ tok kinds.Punct (codes "(") ∷ ts) ≡ Some (declared n named ∷ [], us)
 unfolding part after head_at one_at
-declared_part n named ts us e = rw e refl
+declared_part n is named ts us e = rw (is, e) refl
 
 pub declared_step : {f : List Slot} {rest : List ℕ} {first : Option Tok} {items : List Item} {Y : Type 0} (n : List ℕ) → is_name n ≡ true → (text : Y → List ℕ) (said : Y → Named) (ys : List Y)
     → All (λ y. SpellsElement (argument_at (is_task_start n)) comma EndsAtMark (text y) (said y)) ys
@@ -378,7 +378,7 @@ declared_step {rest = rest} n is text said ys each opens r =
     ∙ ap (λ ts. Some (map said ys, ts)) (closing_tokens rest) in
     step_to a_declared _ (tok kinds.Global (64 ∷ n)) _ (declared n (map said ys) ∷ [])
     (head_clean n (joined (codes ", ") (map text ys)) rest is (list_clean (argument_at (is_task_start n)) comma EndsAtMark text said (λ y rest e ends. at_comma (text y ++ rest)) ys each) r.clean) (head_tokens n is (joined (codes ", ") (map text ys) ++ (41 ∷ rest)))
-    (declared_part n (map said ys) _ (tokens rest) found) r
+    (declared_part n is (map said ys) _ (tokens rest) found) r
 
 declare_form : (more : List Tok) → word_form (codes "declare") more ≡ Some forms.Declare
 unfolding word_form
@@ -405,14 +405,14 @@ function_spelled f is rest stop =
     tokens-spelled kinds.Word (codes "ptr") (32 ∷ 64 ∷ (f ++ rest)) refl refl
     ∙ ap (λ ts. tok kinds.Word (codes "ptr") ∷ ts) (tokens-blank 32 (64 ∷ (f ++ rest)) refl ∙ tokens-spelled kinds.Global (64 ∷ f) rest is stop)
 
-function_says : (f : List ℕ) (ts : List Tok) → passed_at true (tok kinds.Word (codes "ptr") ∷ tok kinds.Global (64 ∷ f) ∷ ts) ≡ Some (function f, ts)
+function_says : (f : List ℕ) → is_name f ≡ true → (ts : List Tok) → passed_at true (tok kinds.Word (codes "ptr") ∷ tok kinds.Global (64 ∷ f) ∷ ts) ≡ Some (function f, ts)
 unfolding passed_at after allowed_type_at spelled_type_at pointer_at one_at
-function_says f ts = rw (past_all-none drops.Groups (tok kinds.Global (64 ∷ f) ∷ ts) refl) refl
+function_says f is ts = rw (past_all-none drops.Groups (tok kinds.Global (64 ∷ f) ∷ ts) refl, is) refl
 
 pub function_element : (f : List ℕ) → is_name f ≡ true → SpellsElement (passed_at true) comma EndsAtMark (codes "ptr @" ++ f) (function f)
 function_element f is = record {
   clean = clean-both (codes "ptr @") f refl (name-clean f is);
-  says = λ rest ends. rw (function_spelled f is rest ends.stop) (function_says f (tokens rest));
+  says = λ rest ends. rw (function_spelled f is rest ends.stop) (function_says f is (tokens rest));
   shorter = λ rest ends. rw (function_spelled f is rest ends.stop) (omega arith);
   goes = λ rest ends. goes_by_comma ((codes "ptr @" ++ f) ++ rest);
 }

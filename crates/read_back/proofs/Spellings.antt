@@ -265,7 +265,7 @@ pub record SpellsValue (text : List ℕ) (value : Val) : Type 0 where
   pub group : (ts : List Tok) → past_group (tok kind text ∷ ts) ≡ None
 
 pub local_value : (name : List ℕ) → is_name name ≡ true → SpellsValue (37 ∷ name) (values.local name)
-local_value name is = record { clean = name-clean name is; kind = kinds.Local; is = is; says = refl; group = λ ts. refl }
+local_value name is = record { clean = name-clean name is; kind = kinds.Local; is = is; says = rw is refl; group = λ ts. refl }
 
 pub null_value : SpellsValue (codes "null") values.null
 null_value = record { clean = refl; kind = kinds.Word; is = refl; says = refl; group = λ ts. refl }

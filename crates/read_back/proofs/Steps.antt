@@ -158,29 +158,29 @@ pub word : {f : List Slot} {text : List ℕ} {first : Option Tok} {items : List 
     → IsClean spelled → Stops text → Reads f text first items → Reads (w spelled ∷ f) (spelled ++ text) (Some (tok kinds.Word spelled)) items
 word spelled is same clean stop r = one (w spelled) kinds.Word spelled [] is clean stop (word_part spelled same) r
 
-local_part : (n : List ℕ) (ts : List Tok) → part a_local (tok kinds.Local (37 ∷ n) ∷ ts) ≡ Some (name n ∷ [], ts)
+local_part : (n : List ℕ) → is_name n ≡ true → (ts : List Tok) → part a_local (tok kinds.Local (37 ∷ n) ∷ ts) ≡ Some (name n ∷ [], ts)
 unfolding part after one_at
-local_part n ts = refl
+local_part n is ts = rw is refl
 
-layout_name_part : (n : List ℕ) (ts : List Tok) → part a_layout_name (tok kinds.Local (37 ∷ n) ∷ ts) ≡ Some (layout_name n ∷ [], ts)
+layout_name_part : (n : List ℕ) → is_name n ≡ true → (ts : List Tok) → part a_layout_name (tok kinds.Local (37 ∷ n) ∷ ts) ≡ Some (layout_name n ∷ [], ts)
 unfolding part after one_at
-layout_name_part n ts = refl
+layout_name_part n is ts = rw is refl
 
-layout_part : (n : List ℕ) (ts : List Tok) → part a_layout (tok kinds.Local (37 ∷ n) ∷ ts) ≡ Some (layout n ∷ [], ts)
+layout_part : (n : List ℕ) → is_name n ≡ true → (ts : List Tok) → part a_layout (tok kinds.Local (37 ∷ n) ∷ ts) ≡ Some (layout n ∷ [], ts)
 unfolding part after one_at
-layout_part n ts = refl
+layout_part n is ts = rw is refl
 
 pub local : {f : List Slot} {text : List ℕ} {first : Option Tok} {items : List Item} (n : List ℕ) → is_name n ≡ true → Stops text
     → Reads f text first items → Reads (a_local ∷ f) (37 ∷ (n ++ text)) (Some (tok kinds.Local (37 ∷ n))) (name n ∷ items)
-local n is stop r = one a_local kinds.Local (37 ∷ n) (name n ∷ []) is (name-clean n is) stop (local_part n) r
+local n is stop r = one a_local kinds.Local (37 ∷ n) (name n ∷ []) is (name-clean n is) stop (local_part n is) r
 
 pub layout_head : {f : List Slot} {text : List ℕ} {first : Option Tok} {items : List Item} (n : List ℕ) → is_name n ≡ true → Stops text
     → Reads f text first items → Reads (a_layout_name ∷ f) (37 ∷ (n ++ text)) (Some (tok kinds.Local (37 ∷ n))) (layout_name n ∷ items)
-layout_head n is stop r = one a_layout_name kinds.Local (37 ∷ n) (layout_name n ∷ []) is (name-clean n is) stop (layout_name_part n) r
+layout_head n is stop r = one a_layout_name kinds.Local (37 ∷ n) (layout_name n ∷ []) is (name-clean n is) stop (layout_name_part n is) r
 
 pub layout_step : {f : List Slot} {text : List ℕ} {first : Option Tok} {items : List Item} (n : List ℕ) → is_name n ≡ true → Stops text
     → Reads f text first items → Reads (a_layout ∷ f) (37 ∷ (n ++ text)) (Some (tok kinds.Local (37 ∷ n))) (layout n ∷ items)
-layout_step n is stop r = one a_layout kinds.Local (37 ∷ n) (layout n ∷ []) is (name-clean n is) stop (layout_part n) r
+layout_step n is stop r = one a_layout kinds.Local (37 ∷ n) (layout n ∷ []) is (name-clean n is) stop (layout_part n is) r
 
 -- a space says nothing, at a blank and elsewhere
 pub spaced : {f : List Slot} {text : List ℕ} {first : Option Tok} {items : List Item} → Reads f text first items → Reads f (32 ∷ text) first items

@@ -5,7 +5,9 @@ mod bytes;
 mod fronts;
 mod labels;
 mod lines;
+mod names;
 mod tokens;
 
 pub use lines::{Line, Lines};
+pub use names::Name;
 pub use tokens::{BadByte, Kind, PlacedToken, Token};

@@ -264,11 +264,13 @@ fn note_line(top: &Top, form: Form, line: &NumberedReading, first: &mut First)
             form,
             line.line,
             *answer,
-            name,
+            name.bytes,
             parameters.as_slice(),
             first,
         ),
-        Reading::Define { name, strategy, .. } => note_head(line.line, name, *strategy, first),
+        Reading::Define { name, strategy, .. } => note_head(
+            line.line, name.bytes, *strategy, first,
+        ),
         _ => {}
     }
 }

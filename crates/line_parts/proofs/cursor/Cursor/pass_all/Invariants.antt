@@ -1,6 +1,6 @@
 use Rattle.std.proofs.Common.{◌≡◌, length}
 use Rattle.line_parts.specs.Drops.{past_all}
-use Rattle.line_parts.proofs.cursor.Cursor.skip.Given as goal
+use Rattle.line_parts.proofs.cursor.Cursor.pass_all.Given as goal
 
 abbrev pub invariant-loop-rest : goal.invariant-loop-rest
 invariant-loop-rest l = past_all l.what l.self ≡ past_all l.what l.initial.self
