@@ -13,7 +13,7 @@ use std::alloc::Global;
 
 #[inline(never)]
 pub fn scalar_element<'a>(cursor: &mut Cursor<'_, 'a>, name: Name<'a>) -> Result<Reading<'a>, Stop>
-    ensures { Gives seen result cursor.new (behind_operator Form.ScalarElement name.bytes.now cursor.old) }
+    ensures { Gives seen result cursor.new (behind_operator Form.ScalarElement name.entry.bytes.now cursor.old) }
 {
     cursor.skip(Dropped::Words(Flags::Bounds));
     let element = cursor.scalar_type()?;
@@ -35,7 +35,7 @@ pub fn scalar_element<'a>(cursor: &mut Cursor<'_, 'a>, name: Name<'a>) -> Result
 
 #[inline(never)]
 pub fn layout_element<'a>(cursor: &mut Cursor<'_, 'a>, name: Name<'a>) -> Result<Reading<'a>, Stop>
-    ensures { Gives seen result cursor.new (behind_operator Form.LayoutElement name.bytes.now cursor.old) }
+    ensures { Gives seen result cursor.new (behind_operator Form.LayoutElement name.entry.bytes.now cursor.old) }
 {
     cursor.skip(Dropped::Words(Flags::Bounds));
     let layout = cursor.local()?;
@@ -59,7 +59,7 @@ pub fn layout_element<'a>(cursor: &mut Cursor<'_, 'a>, name: Name<'a>) -> Result
 
 #[inline(never)]
 pub fn load<'a>(cursor: &mut Cursor<'_, 'a>, name: Name<'a>) -> Result<Reading<'a>, Stop>
-    ensures { Gives seen result cursor.new (behind_operator Form.Load name.bytes.now cursor.old) }
+    ensures { Gives seen result cursor.new (behind_operator Form.Load name.entry.bytes.now cursor.old) }
 {
     let ty = cursor.value_type()?;
     cursor.mark(b",")?;

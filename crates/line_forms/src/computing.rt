@@ -32,7 +32,7 @@ pub fn binary<'a>(
     name: Name<'a>,
     op: Binary,
 ) -> Result<Reading<'a>, Stop>
-    ensures { Gives seen result cursor.new (behind_operator (Form.Binary op) name.bytes.now cursor.old) }
+    ensures { Gives seen result cursor.new (behind_operator (Form.Binary op) name.entry.bytes.now cursor.old) }
 {
     binary_flags(cursor, op);
     let width = cursor.width()?;
@@ -51,7 +51,7 @@ pub fn binary<'a>(
 
 #[inline(never)]
 pub fn compare<'a>(cursor: &mut Cursor<'_, 'a>, name: Name<'a>) -> Result<Reading<'a>, Stop>
-    ensures { Gives seen result cursor.new (behind_operator Form.Compare name.bytes.now cursor.old) }
+    ensures { Gives seen result cursor.new (behind_operator Form.Compare name.entry.bytes.now cursor.old) }
 {
     cursor.skip(Dropped::Words(Flags::SameSign));
     let pred = cursor.pred()?;
@@ -75,7 +75,7 @@ pub fn convert<'a>(
     name: Name<'a>,
     op: Conversion,
 ) -> Result<Reading<'a>, Stop>
-    ensures { Gives seen result cursor.new (behind_operator (Form.Convert op) name.bytes.now cursor.old) }
+    ensures { Gives seen result cursor.new (behind_operator (Form.Convert op) name.entry.bytes.now cursor.old) }
 {
     conversion_flags(cursor, op);
     let width = cursor.width()?;
@@ -94,7 +94,7 @@ pub fn convert<'a>(
 
 #[inline(never)]
 pub fn cast<'a>(cursor: &mut Cursor<'_, 'a>, name: Name<'a>, op: Cast) -> Result<Reading<'a>, Stop>
-    ensures { Gives seen result cursor.new (behind_operator (Form.Cast op) name.bytes.now cursor.old) }
+    ensures { Gives seen result cursor.new (behind_operator (Form.Cast op) name.entry.bytes.now cursor.old) }
 {
     let from = cursor.cast_type()?;
     let value = cursor.value()?;
@@ -112,7 +112,7 @@ pub fn cast<'a>(cursor: &mut Cursor<'_, 'a>, name: Name<'a>, op: Cast) -> Result
 
 #[inline(never)]
 pub fn select<'a>(cursor: &mut Cursor<'_, 'a>, name: Name<'a>) -> Result<Reading<'a>, Stop>
-    ensures { Gives seen result cursor.new (behind_operator Form.Select name.bytes.now cursor.old) }
+    ensures { Gives seen result cursor.new (behind_operator Form.Select name.entry.bytes.now cursor.old) }
 {
     cursor.word(b"i1")?;
     let condition = cursor.value()?;
@@ -139,7 +139,7 @@ pub fn phi<'a>(
     name: Name<'a>,
     alloc: Global,
 ) -> Result<Reading<'a>, Stop>
-    ensures { Gives seen result cursor.new (behind_operator Form.Phi name.bytes.now cursor.old) }
+    ensures { Gives seen result cursor.new (behind_operator Form.Phi name.entry.bytes.now cursor.old) }
 {
     let ty = cursor.value_type()?;
     let entries = cursor.entries(alloc)?;

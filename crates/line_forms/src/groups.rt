@@ -127,7 +127,7 @@ fn boxed<'a>(
     entries: LiveEntries<'a>,
 ) -> Result<Reading<'a>, Stop>
     ensures { (rest : List Tok) → Gives seen result rest (Some (
-      of_form Form.Statepoint (name token.bytes.now ∷ literal call.entry.id
+      of_form Form.Statepoint (name token.entry.bytes.now ∷ literal call.entry.id
           ∷ ty call.entry.function_type.answer ∷ types call.entry.function_type.parameters.items ∷ name call.entry.callee.bytes.now
           ∷ literal call.entry.count ∷ handed (map seen_passed call.entry.passed.items) ∷ live (map seen_value entries.entry.items) ∷ []),
       rest,

@@ -57,7 +57,7 @@ fn operated<'a>(
     name: Name<'a>,
 ) -> Result<Reading<'a>, Stop>
     requires { is_operator_form form ≡ true }
-    ensures { Gives seen result cursor.new (behind_operator form name.bytes.now cursor.old) }
+    ensures { Gives seen result cursor.new (behind_operator form name.entry.bytes.now cursor.old) }
 {
     match form {
         Form::Binary(op) => binary(cursor, name, op),

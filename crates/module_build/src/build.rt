@@ -408,8 +408,8 @@ fn gc_result(
     lost: &mut Lost,
 ) -> Result<(), AllocError>
     ensures insts { OnOk result (insts.new.items ≡ insts.old.items ++ (instruction (Some name.now) Op.GcResult (type_of answer)
-        (operand_in local.now.values token_type (values.local token.bytes.now) ∷ []) []) ∷ []) }
-    ensures lost { lost.new ≡ after_uses local.now.values lost.old (token_use token.bytes.now ∷ []) }
+        (operand_in local.now.values token_type (values.local token.entry.bytes.now) ∷ []) []) ∷ []) }
+    ensures lost { lost.new ≡ after_uses local.now.values lost.old (token_use token.entry.bytes.now ∷ []) }
 {
     let operands = [operand(local, TOKEN, &Value::Local(token), lost)];
     push_inst(
@@ -434,10 +434,10 @@ fn gc_relocate(
     lost: &mut Lost,
 ) -> Result<(), AllocError>
     ensures insts { OnOk result (insts.new.items ≡ insts.old.items ++ (instruction (Some name.now) Op.GcRelocate Ty.Ptr
-        (operand_in local.now.values token_type (values.local token.bytes.now)
+        (operand_in local.now.values token_type (values.local token.entry.bytes.now)
         ∷ operand_in local.now.values (TypeWord.Int 32) (values.number base)
         ∷ operand_in local.now.values (TypeWord.Int 32) (values.number derived) ∷ []) []) ∷ []) }
-    ensures lost { lost.new ≡ after_uses local.now.values lost.old (token_use token.bytes.now ∷ index_use base ∷ index_use derived ∷ []) }
+    ensures lost { lost.new ≡ after_uses local.now.values lost.old (token_use token.entry.bytes.now ∷ index_use base ∷ index_use derived ∷ []) }
 {
     let index = TypeWord::Int(32);
     let operands = [
