@@ -10,6 +10,7 @@ mod places;
 mod raw;
 mod states;
 mod text;
+mod woven;
 
 pub use faults::ReadFault;
 pub use laws::{fitting_line, judged_text};
@@ -22,3 +23,4 @@ pub use line_parts::{
 pub use line_tokens::{Binary, Cast, Conversion, Literal};
 pub use raw::{NumberedReading, Raw};
 pub use text::{read, read_rewritten};
+pub use woven::Woven;
