@@ -1,5 +1,6 @@
 pub mod Statements
 pub mod TextForms
+pub mod Parted
 pub mod Parts
 pub mod Sections
 pub mod Places

@@ -1,9 +1,10 @@
 //! The definitions of a text, and their blocks.
 
-ghost use Rattle.std.specs.Prelude.{◌≡◌, ℕ, [], ◌++◌, ◌<◌, not, take_while, position, length, map, decimal, option_map, option_to_list, unwrap_or, IfSome, IfOk, OnOk};
+ghost use Rattle.std.specs.Prelude.{◌≡◌, ℕ, [], ◌++◌, ◌<◌, position, length, map, decimal, option_map, option_to_list, unwrap_or, IfSome, IfOk, OnOk};
 ghost use Rattle.std.specs.Option.{option_copied};
 ghost use Rattle.line_parts.specs.Seen.{seen_argument};
-ghost use Rattle.ir_lines.specs.Sections.{is_close, is_label, label_said, until_label, is_digit, is_number, is_numbered, count_numbered, arguments_named, definition_said, definitions_of, first_block, block_at, labelled_blocks, blocks_of};
+ghost use Rattle.ir_lines.specs.Sections.{is_label, label_said, until_label, is_digit, is_number, is_numbered, count_numbered, arguments_named, first_block, block_at, labelled_blocks, blocks_of};
+ghost use Rattle.ir_lines.specs.Parted.{definition_with};
 ghost use Rattle.ir_lines.specs.Tables.{seen_definition, seen_block};
 ghost use Rattle.std.specs.List.{list_all};
 ghost use Rattle.ir_lines.specs.Views.{said, seen_lines};
@@ -30,35 +31,12 @@ pub struct BlockLines<'t, 'a, 'n> {
     pub lines: &'t [NumberedReading<'a>],
 }
 
-fn is_close(reading: &Reading) -> bool
-    ensures { result ≡ is_close (said reading.now) }
-{
-    matches!(reading, Reading::Close)
-}
-
 fn label_of<'a>(reading: &Reading<'a>) -> Option<&'a [u8]>
     ensures { option_copied result ≡ label_said (said reading.now) }
 {
     match reading {
         Reading::Label { name } => Some(name.bytes),
         _ => None,
-    }
-}
-
-fn first_close(lines: &[NumberedReading]) -> Option<usize>
-    ensures is { result ≡ position (λ l. is_close (said l.reading)) lines.now }
-    ensures below { IfSome result (λ end. end < length lines.now) }
-{
-    lines.iter().position(|line| is_close(&line.reading))
-}
-
-// The lines before the closing brace.
-fn body_of<'t, 'a>(lines: &'t [NumberedReading<'a>]) -> &'t [NumberedReading<'a>]
-    ensures { seen_lines result.now ≡ take_while (λ l. not (is_close l.says)) (seen_lines lines.now) }
-{
-    match first_close(lines) {
-        Some(end) => &lines[..end],
-        None => lines,
     }
 }
 
@@ -85,12 +63,12 @@ fn until_label<'t, 'a>(lines: &'t [NumberedReading<'a>]) -> &'t [NumberedReading
     }
 }
 
-// The definition whose head this line is, with these lines after it.
-fn definition_at<'t, 'a>(
+/// The definition whose head this line is, with this body.
+pub fn definition_with<'t, 'a>(
     line: &'t NumberedReading<'a>,
-    after: &'t [NumberedReading<'a>],
+    body: &'t [NumberedReading<'a>],
 ) -> Option<Definition<'t, 'a>>
-    ensures { option_to_list (option_map seen_definition result) ≡ definition_said line.now.line (said line.now.reading) (seen_lines after.now) }
+    ensures { option_to_list (option_map seen_definition result) ≡ definition_with line.now.line (said line.now.reading) (seen_lines body.now) }
 {
     match &line.reading {
         Reading::Define {
@@ -104,26 +82,10 @@ fn definition_at<'t, 'a>(
             name: name.bytes,
             arguments: arguments.as_slice(),
             strategy: *strategy,
-            body: body_of(after),
+            body,
         }),
         _ => None,
     }
-}
-
-/// The definitions of a text, in its order.
-pub fn definitions<'t, 'a>(
-    alloc: Global,
-    lines: &'t [NumberedReading<'a>],
-) -> Result<Vec<Definition<'t, 'a>>, AllocError>
-    ensures { IfOk result (λ found. map seen_definition found.items ≡ definitions_of (seen_lines lines.now)) }
-{
-    let mut found = Vec::new(alloc);
-    for (i, line) in lines.iter().enumerate() {
-        if let Some(func) = definition_at(line, &lines[i + 1..]) {
-            found.push(func)?;
-        }
-    }
-    Ok(found)
 }
 
 fn is_digit(byte: u8) -> bool

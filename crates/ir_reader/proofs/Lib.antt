@@ -4,3 +4,4 @@ pub mod FittingLines
 pub mod JudgedOnce
 pub mod Judging
 pub mod LineByLine
+pub mod Weaving

@@ -7,3 +7,4 @@ pub mod Quantities
 pub mod Raws
 pub mod Reads
 pub mod Text
+pub mod Woven

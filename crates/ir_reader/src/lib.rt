@@ -10,6 +10,7 @@ mod places;
 mod raw;
 mod states;
 mod text;
+mod woven;
 
 pub use faults::ReadFault;
 pub use laws::{fitting_line, judged_text};
@@ -23,3 +24,4 @@ pub use line_tokens::{Binary, Cast, Conversion, Literal};
 pub use raw::{NumberedReading, Raw};
 pub use sp_text::Name;
 pub use text::{read, read_rewritten};
+pub use woven::Woven;

@@ -13,6 +13,7 @@ use crate::faults::LineFault;
 use crate::limits::{answer_fits, counted_as, reading_fits};
 use crate::raw::NumberedReading;
 use crate::states::{Counted, Place, State};
+use crate::woven::Woven;
 use line_forms::{DroppedLine, Form, Reading, opened_form, whole_dropped, whole_kept};
 use line_parts::{Cursor, TypeWord};
 use sp_text::{Line, Token};
@@ -44,14 +45,15 @@ impl State {
     // Keeps what a line says, if it passes no limit.
     fn keep<'a>(
         &mut self,
+        alloc: Global,
         place: Place,
         line: u32,
         reading: Reading<'a>,
-        readings: &mut Vec<NumberedReading<'a>>,
+        readings: &mut Woven<'a>,
     ) -> Result<(), LineFault>
         requires { IsTrue (counts_fit self.old.counts) }
         ensures ok { OnOk result (AfterLine (within self.old place (seen reading.entry)) line self.old self.new
-            (map seen_numbered readings.old.items) (map seen_numbered readings.new.items)) }
+            (map seen_numbered readings.old) (map seen_numbered readings.new)) }
         ensures fault { IfErr result (λ fault. IsFaultOf fault (within self.old place (seen reading.entry))) }
         ensures counts { OnOk result (IsTrue (counts_fit self.new.counts)) }
     {
@@ -59,7 +61,10 @@ impl State {
         if !(reading_fits(&reading) && counts.fit()) {
             return Err(LineFault::OverLimit);
         }
-        if readings.push(NumberedReading { line, reading }).is_err() {
+        if readings
+            .push(alloc, NumberedReading { line, reading })
+            .is_err()
+        {
             return Err(LineFault::Memory);
         }
         self.place = place;
@@ -74,11 +79,11 @@ impl State {
         alloc: Global,
         line: Line<'a>,
         room: &mut [Token<'a>],
-        readings: &mut Vec<NumberedReading<'a>>,
+        readings: &mut Woven<'a>,
     ) -> Result<(), LineFault>
         requires { IsTrue (counts_fit self.old.counts) }
         ensures ok { OnOk result (AfterLine (tokens_outcome self.old (tokens line.entry.bytes.now)) line.entry.number self.old self.new
-            (map seen_numbered readings.old.items) (map seen_numbered readings.new.items)) }
+            (map seen_numbered readings.old) (map seen_numbered readings.new)) }
         ensures fault { IfErr result (λ fault. IsFaultOf fault (tokens_outcome self.old (tokens line.entry.bytes.now))) }
         ensures counts { OnOk result (IsTrue (counts_fit self.new.counts)) }
     {
@@ -100,7 +105,7 @@ impl State {
             }
             _ => {
                 let reading = whole_kept(&mut cursor, alloc, form, name)?;
-                self.keep(place, line.number, reading, readings)
+                self.keep(alloc, place, line.number, reading, readings)
             }
         }
     }
@@ -113,11 +118,11 @@ impl State {
         alloc: Global,
         line: Line<'a>,
         room: &mut [Token<'a>],
-        readings: &mut Vec<NumberedReading<'a>>,
+        readings: &mut Woven<'a>,
     ) -> Result<(), LineFault>
         requires { IsTrue (counts_fit self.old.counts) }
         ensures ok { OnOk result (AfterLine (outcome self.old line.entry.bytes.now) line.entry.number self.old self.new
-            (map seen_numbered readings.old.items) (map seen_numbered readings.new.items)) }
+            (map seen_numbered readings.old) (map seen_numbered readings.new)) }
         ensures fault { IfErr result (λ fault. IsFaultOf fault (outcome self.old line.entry.bytes.now)) }
         ensures counts { OnOk result (IsTrue (counts_fit self.new.counts)) }
     {
@@ -134,7 +139,7 @@ impl State {
             line: line.number,
             reading: Reading::Label { name },
         };
-        if readings.push(reading).is_err() {
+        if readings.push(alloc, reading).is_err() {
             return Err(LineFault::Memory);
         }
         self.place = place;

@@ -2,6 +2,7 @@
 
 ghost use Rattle.std.specs.Prelude.{◌≡◌};
 
+use crate::woven::Woven;
 use ir_ast::Form;
 use line_forms::Reading;
 use std::marker::Model;
@@ -19,7 +20,7 @@ pub struct NumberedReading<'a> {
 pub struct Raw<'a> {
     text: &'a [u8],
     form: Form,
-    readings: Vec<NumberedReading<'a>>,
+    readings: Woven<'a>,
 }
 
 impl<'a> Model for Raw<'a> {
@@ -27,31 +28,23 @@ impl<'a> Model for Raw<'a> {
 
     ghost Value = { Readings };
 
-    ghost view = { λ raw. record { text = raw.text.now; form = raw.form; lines = raw.readings.items } };
+    ghost view = { λ raw. record { text = raw.text.now; form = raw.form; lines = raw.readings } };
 
-    ghost invariant = { λ raw. IsRead (record { text = raw.text.now; form = raw.form; lines = raw.readings.items }) };
+    ghost invariant = { λ raw. IsRead (record { text = raw.text.now; form = raw.form; lines = raw.readings }) };
 }
 
 impl<'a> Raw<'a> {
     ghost use Rattle.ir_reader.specs.Raws.{Readings, IsRead};
 
-    pub(crate) fn of(text: &'a [u8], form: Form, readings: Vec<NumberedReading<'a>>) -> Raw<'a>
-        requires { IsRead (record { text = text.now; form = form; lines = readings.items }) }
-        ensures { result ≡ record { text = text.entry.now; form = form; lines = readings.entry.items } }
+    pub(crate) fn of(text: &'a [u8], form: Form, readings: Woven<'a>) -> Raw<'a>
+        requires { IsRead (record { text = text.now; form = form; lines = readings }) }
+        ensures { result ≡ record { text = text.entry.now; form = form; lines = readings.entry } }
     {
         Raw {
             text,
             form,
             readings,
         }
-    }
-
-    /// The readings, in the order of the text.
-    pub fn lines(&self) -> &[NumberedReading<'a>]
-        ensures lines { result.now ≡ self.now.lines }
-        ensures read { IsRead self.now }
-    {
-        self.readings.as_slice()
     }
 
     /// The form that the text was read in.
@@ -69,8 +62,8 @@ impl<'a> Raw<'a> {
     }
 
     /// Gives the readings up.
-    pub fn into_lines(self) -> Vec<NumberedReading<'a>>
-        ensures lines { result.items ≡ self.entry.lines }
+    pub fn into_lines(self) -> Woven<'a>
+        ensures lines { result ≡ self.entry.lines }
         ensures read { IsRead self.entry }
     {
         self.readings

@@ -7,8 +7,9 @@ ghost use Rattle.ir_reader.specs.Raws.{seen_numbered};
 ghost use Rattle.ir_reader.specs.Reads.{TextGives, AfterLine, FaultOfLine};
 
 use crate::faults::{LineFault, ReadFault};
-use crate::raw::{NumberedReading, Raw};
+use crate::raw::Raw;
 use crate::states::{Counts, Place, State};
+use crate::woven::Woven;
 use ir_ast::Form;
 use sp_ids::limits::FILE_BYTES;
 use sp_text::{Kind, Line, Lines, Token};
@@ -66,18 +67,14 @@ pub fn read_rewritten(alloc: Global, text: &[u8]) -> Result<Raw<'_>, ReadFault>
     Ok(Raw::of(text, Form::Rewritten, readings))
 }
 
-fn all_readings(
-    alloc: Global,
-    form: Form,
-    text: &[u8],
-) -> Result<Vec<NumberedReading<'_>>, ReadFault>
+fn all_readings(alloc: Global, form: Form, text: &[u8]) -> Result<Woven<'_>, ReadFault>
     requires { length text.now ≤ FILE_BYTES }
-    ensures { TextGives (λ readings. map seen_numbered readings.items) result (readings_in form text.now) }
+    ensures { TextGives (λ readings. map seen_numbered readings) result (readings_in form text.now) }
 {
     let mut lines = Lines::of(text);
     let mut state = State::opening(form);
     let mut number = 1;
-    let mut readings = Vec::new(alloc);
+    let mut readings = Woven::new(alloc);
     let mut room = [NO_TOKEN; TOKENS_AT_ONCE];
     while let Some(line) = lines.next_line() {
         read_line(alloc, &mut state, line, &mut room, &mut readings)?;
@@ -96,11 +93,11 @@ fn read_line<'a>(
     state: &mut State,
     line: Line<'a>,
     room: &mut [Token<'a>],
-    readings: &mut Vec<NumberedReading<'a>>,
+    readings: &mut Woven<'a>,
 ) -> Result<(), ReadFault>
     requires { IsTrue (counts_fit state.old.counts) }
     ensures ok { OnOk result (AfterLine (outcome state.old line.entry.bytes.now) line.entry.number state.old state.new
-        (map seen_numbered readings.old.items) (map seen_numbered readings.new.items)) }
+        (map seen_numbered readings.old) (map seen_numbered readings.new)) }
     ensures fault { IfErr result (λ fault. FaultOfLine fault line.entry.number (outcome state.old line.entry.bytes.now)) }
     ensures counts { OnOk result (IsTrue (counts_fit state.new.counts)) }
 {

@@ -8,7 +8,7 @@ use Rattle.ir_reader.proofs.LineByLine.{with_lines}
 use Rattle.ir_reader.proofs.text.all_readings.Given as goal
 
 abbrev pub invariant-loop-line : goal.invariant-loop-line
-invariant-loop-line l = (with_lines (map seen_numbered l.readings.items) (readings l.state l.number (lines_left l.lines)) ≡ readings_in l.initial.state.form l.text) × IsTrue (counts_fit l.state.counts)
+invariant-loop-line l = (with_lines (map seen_numbered l.readings) (readings l.state l.number (lines_left l.lines)) ≡ readings_in l.initial.state.form l.text) × IsTrue (counts_fit l.state.counts)
 
 abbrev pub decreases-loop-line : goal.decreases-loop-line
 decreases-loop-line l = length l.lines.text - l.lines.at
