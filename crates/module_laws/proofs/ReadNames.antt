@@ -4,7 +4,7 @@ use Rattle.std.specs.Prelude.{IfSome, codes, unwrap_or, ⊤}
 use Rattle.std.specs.List.{AllByRecursion, list_any, before_first, after_first}
 use Rattle.std.specs.Str.{bytes_eq}
 use Rattle.sp_text.specs.Bytes.{is_blank, semicolon, percent, at_sign}
-use Rattle.sp_text.specs.Tokens.{Tok, tok, bad, is_token, is_name, first_then, front_of, front_and_more, tokens_after, tokens, says_nothing}
+use Rattle.sp_text.specs.Tokens.{Tok, tok, bad, over, note, is_token, is_name, first_then, front_of, front_and_more, tokens_after, tokens, says_nothing}
 use Rattle.sp_text.specs.Labels.{is_label, label_in, is_colon}
 use Rattle.sp_text.specs.declared.tokens.Kind.{Kind}
 use Rattle.sp_text.specs.declared.tokens.Kind.TheVariants as kinds
@@ -13,9 +13,9 @@ use Rattle.ir_cfg.specs.Limits.{IsName}
 use Rattle.line_parts.specs.declared.readings.TypeWord.{TypeWord}
 use Rattle.line_parts.specs.declared.readings.TypeWord.TheVariants as types
 use Rattle.line_tokens.specs.declared.words.Dropped.TheVariants as drops
-use Rattle.line_parts.specs.Gives.{Found, after, one_at, with_rest}
+use Rattle.line_parts.specs.Gives.{Found, after, one_at, with_rest, noted}
 use Rattle.line_tokens.specs.Marks.{is_mark, is_word, is_number, is_quoted, local_of, global_of, stands, begins}
-use Rattle.line_tokens.specs.Numbers.{width_of}
+use Rattle.line_tokens.specs.Numbers.{width_of, width_passes}
 use Rattle.line_parts.specs.Drops.{past, past_all, past_at_most, past_group, past_word, past_quoted_value, past_bracketing, after_bracket, is_attribute_word}
 use Rattle.line_parts.specs.Parts.{word_at, mark_at, local_at, global_at, addrspace_at, is_one, pointer_at, other_type_at, type_behind, spelled_type_at, allowed_type_at, name_if_any, is_answer_type}
 use Rattle.line_parts.specs.Lists.{Named, at_most_at, listed_at, list_to, comma, is_argument_type, argument_at, arguments_at, is_task_start, head_at}
@@ -30,6 +30,7 @@ use Rattle.ir_lines.specs.ReadLines.{IsNameIfAny}
 abbrev pub GoodTok : Tok → Type 0
 GoodTok (tok kind bytes) = is_token kind bytes ≡ true
 GoodTok bad = ⊤
+GoodTok over = ⊤
 
 abbrev pub Good : List Tok → Type 0
 Good ts = AllByRecursion GoodTok ts
@@ -75,6 +76,7 @@ rest_good Q (Some x) ts q g = (q, g)
 one_good : {A : Type 0} (Q : A → Type 0) (says : Tok → Option A) → ((t : Tok) → GoodTok t → IfSome (says t) Q) → (ts : List Tok) → Good ts → GF Q (one_at says ts)
 unfolding one_at
 one_good Q says h [] g = tt
+one_good Q says h (over ∷ ts) g = tt
 one_good Q says h (t ∷ ts) g = rest_good Q (says t) ts (h t g.0) g.1
 
 if_any : {A : Type 0} (o : Option A) → IfSome o (λ x. ⊤)
@@ -199,8 +201,19 @@ other_type_good t ts g =
     chosen_good (λ (x : TypeWord). ⊤) (is_word (codes "void") t) (Some (types.Void, ts)) (if is_word (codes "ptr") t then pointer_at ts else None) (tt, g)
     (chosen_good (λ (x : TypeWord). ⊤) (is_word (codes "ptr") t) (pointer_at ts) None (pointer_good ts g) tt)
 
+note_good : (ts : List Tok) → Good ts → Good (note ts)
+unfolding note
+note_good [] g = (tt, tt)
+note_good (over ∷ ts) g = g
+note_good (bad ∷ ts) g = g
+note_good (tok kind bytes ∷ ts) g = (g.0, note_good ts g.1)
+
+noted_good : (passes : Bool) (ts : List Tok) → Good ts → Good (noted passes ts)
+noted_good true ts g = note_good ts g
+noted_good false ts g = g
+
 behind_good : (t : Tok) (ts : List Tok) (o : Option ℕ) → Good ts → GF (λ (x : TypeWord). ⊤) (type_behind t ts o)
-behind_good t ts (Some width) g = (tt, g)
+behind_good t ts (Some width) g = (tt, noted_good (width_passes t) ts g)
 behind_good t ts None g = other_type_good t ts g
 
 spelled_good : (ts : List Tok) → Good ts → GF (λ (x : TypeWord). ⊤) (spelled_type_at ts)
