@@ -1,11 +1,11 @@
 -- What the lines of a text that was read are like: each stands where it may and passes no limit of a line.
 use Rattle.std.specs.Prelude.{◌≡◌, ◌≤◌, Bool, true, not, ◌&&◌, nat_le, List, [], ◌∷◌, length, Option, Some, None}
-use Rattle.std.specs.List.{All, list_all}
+use Rattle.std.specs.List.{All}
 use Rattle.ir_ast.specs.declared.modules.Form.{Form}
 use Rattle.ir_ast.specs.declared.modules.Form.TheVariants.{Source, Rewritten}
 use Rattle.ir_reader.specs.declared.states.Place.{Place}
 use Rattle.ir_reader.specs.declared.states.Place.TheVariants as places
-use Rattle.ir_reader.specs.Limits.{width_fits, type_fits, value_fits, place_fits, argument_fits, given_fits, entry_value_fits, name_fits, literal_fits, live_fits}
+use Rattle.ir_reader.specs.Limits.{name_fits}
 use Rattle.ir_lines.specs.Statements.{Statement, Line, layout, declare, define, close, label, binary, compare, convert, select, phi, scalar_step, layout_step, load, store, call, jump, branch, switch, switch_case, switch_end, ret_void, ret, unreachable, cast, statepoint, gc_result, gc_relocate}
 use Rattle.ir_lines.specs.Parts.{is_of_group}
 use Rattle.ir_lines.specs.ReadLines.{RelocatesAreFew}
@@ -77,34 +77,11 @@ Stand place (l ∷ ls) = Goes (place_behind place l.says) (λ next. Stand next l
 
 -- ---- limits of a line
 
--- the widths, literals, lengths of lists and of names that it spells are within the limits
+-- the lengths of lists and of names that it spells are within the limits
 abbrev pub statement_fits : Statement → Bool
-statement_fits (layout name fields) = name_fits name && (nat_le (length fields) 64 && list_all type_fits fields)
-statement_fits (declare answer name parameters) = type_fits answer && list_all argument_fits parameters
-statement_fits (define answer name arguments strategy) =
-    type_fits answer && (name_fits name && nat_le (length arguments) 64 && list_all argument_fits arguments)
-statement_fits (binary result op width left right) = width_fits width && (value_fits left && value_fits right)
-statement_fits (compare result predicate ty left right) = type_fits ty && (value_fits left && value_fits right)
-statement_fits (convert result op width value to) = width_fits width && (value_fits value && width_fits to)
-statement_fits (select result condition left_ty left right_ty right) =
-    value_fits condition && (type_fits left_ty && (value_fits left && (type_fits right_ty && value_fits right)))
-statement_fits (phi result ty entries) = type_fits ty && list_all entry_value_fits entries
-statement_fits (scalar_step result element address width index) = value_fits address && (width_fits width && value_fits index)
-statement_fits (layout_step result named address width index place) =
-    value_fits address && (width_fits width && (value_fits index && place_fits place))
-statement_fits (load result ty address) = type_fits ty && value_fits address
-statement_fits (store ty value address) = type_fits ty && (value_fits value && value_fits address)
-statement_fits (call result answer callee passed) = type_fits answer && list_all given_fits passed
-statement_fits (branch condition on_true on_false) = value_fits condition
-statement_fits (switch width value default) = width_fits width && value_fits value
-statement_fits (switch_case width value to) = width_fits width && value_fits value
-statement_fits (ret ty value) = type_fits ty && value_fits value
-statement_fits (cast result op from value to) = type_fits from && (value_fits value && type_fits to)
-statement_fits (statepoint result made live) =
-    literal_fits made.id && (type_fits made.signature.answer && (list_all type_fits made.signature.parameters
-    && (literal_fits made.count && (list_all given_fits made.passed && live_fits live))))
-statement_fits (gc_result result ty token) = type_fits ty
-statement_fits (gc_relocate result token base derived) = literal_fits base && literal_fits derived
+statement_fits (layout name fields) = name_fits name && nat_le (length fields) 64
+statement_fits (define answer name arguments strategy) = name_fits name && nat_le (length arguments) 64
+statement_fits (statepoint result made live) = nat_le (length live) 16384
 statement_fits _ = true
 
 -- ---- what only one of the two forms has or asks

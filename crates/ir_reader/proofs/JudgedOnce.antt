@@ -1,6 +1,6 @@
 -- A text comes to one thing alone.
-use Rattle.std.proofs.Common.{◌≡◌, ℕ, true, false, List, [], ◌∷◌, ◌++◌, Option, Some, None, Result, Ok, Err, refl, sym, ap, ◌∙◌, append_assoc, inl, inr}
-use Rattle.std.specs.Prelude.{◌⊎◌, ⊤, map, filter}
+use Rattle.std.proofs.Common.{◌≡◌, ℕ, true, false, ◌&&◌, List, [], ◌∷◌, ◌++◌, Option, Some, None, Result, Ok, Err, refl, sym, ap, ◌∙◌, append_assoc, inl, inr}
+use Rattle.std.specs.Prelude.{◌⊎◌, ⊤, not, map, filter}
 use Rattle.std.proofs.lemmas.Bool.{true≢false}
 use Rattle.std.proofs.lemmas.List.{map-append}
 use Rattle.sp_text.specs.Lines.{NumberedLine}
@@ -29,7 +29,7 @@ same_found text lines found other place at r s =
 abbrev Halts : TextForm → List Numbered → Placed → Type 0
 Halts text found unread = ⊤
 Halts text found empty = ⊥
-Halts text found (says what next) = within_limits text (map said_of found ++ what ∷ []) ≡ false
+Halts text found (says what passed next) = (not passed && within_limits text (map said_of found ++ what ∷ [])) ≡ false
 
 record Stopped (text : TextForm) (lines : List NumberedLine) (number : ℕ) : Type 0 where
   front : List NumberedLine
@@ -81,7 +81,8 @@ halt_by : (text : TextForm) (last : NumberedLine) (mid : List NumberedLine) (fou
     → ((front back : List Numbered) → all ≡ front ++ back → within_limits text (map said_of front) ≡ true) → ⊥
 halt_by text last mid found all place end unread h e within = cc
 halt_by text last mid found all place end empty h e within = h
-halt_by text last mid found all place end (says what next) h e within =
+halt_by text last mid found all place end (says what true next) h e within = cc
+halt_by text last mid found all place end (says what false next) h e within =
     true≢false (sym (found_past text found all (record { line = last.number; said = what }) end (said_in text next mid) e within) ∙ h)
 
 stopped_there : (text : TextForm) (lines mid : List NumberedLine) (number : ℕ) (all : List Numbered) (end : Place) (s : Stopped text lines number) → ReadTo text (s.front ++ s.last ∷ mid) all end → ⊥
@@ -142,7 +143,7 @@ over_unread text lines n m o u =
     let place : o.place ≡ u.place = p.places in
     let last : o.last ≡ u.last = p.lines_are in
     let at : placed text o.place o.last.bytes ≡ unread = ap (λ (q : Place). placed text q o.last.bytes) place ∙ ap (λ (l : NumberedLine). placed text u.place l.bytes) last ∙ u.none in
-    let read : placed text o.place o.last.bytes ≡ says o.what o.next = o.read in
+    let read : placed text o.place o.last.bytes ≡ says o.what o.passed o.next = o.read in
     cc
 
 whole_unclosed : (text : TextForm) (lines : List NumberedLine) (readings : List Numbered) (n : ℕ) → Whole text lines readings → Unclosed text lines n → ⊥

@@ -1,6 +1,6 @@
 -- What a text comes to, by all of its lines up to the one that decides.
 use Rattle.std.proofs.Common.{◌≡◌, ℕ, ◌+◌, Bool, true, false, cond, ◌&&◌, List, [], ◌∷◌, ◌++◌, Option, Some, None, Result, Ok, Err, refl, sym, ap, subst, ◌∙◌, append_assoc, inl, inr}
-use Rattle.std.specs.Prelude.{◌⊎◌, map, filter, if◌then◌else◌}
+use Rattle.std.specs.Prelude.{◌⊎◌, ⊤, not, map, filter, option_map, if◌then◌else◌}
 use Rattle.std.specs.List.{list_all}
 use Rattle.std.proofs.lemmas.List.{append-nil, map-append}
 use Rattle.std.proofs.lemmas.List.Elements.{filter-append}
@@ -19,12 +19,12 @@ use Rattle.ir_reader.specs.declared.states.State.{State}
 use Rattle.ir_reader.specs.declared.states.Counts.{Counts}
 use Rattle.ir_reader.specs.declared.states.Counted.{Counted}
 use Rattle.ir_reader.specs.declared.states.Counted.TheVariants as kinds
-use Rattle.line_parts.specs.Gives.{Found, after, is_nil}
+use Rattle.line_parts.specs.Gives.{Found, after, is_nil, end_of}
 use Rattle.line_forms.specs.Slots.{Item}
 use Rattle.line_forms.specs.Forms.{fit, form_in, is_dropped_form}
 use Rattle.line_forms.specs.Seen.{Said, label, of_form, line_at, ended}
 use Rattle.ir_reader.specs.Places.{behind, behind_label}
-use Rattle.ir_reader.specs.Limits.{said_fits, said_counts_as, counts_as, counted, counted_in, counts_fit}
+use Rattle.ir_reader.specs.Limits.{said_fits, line_fits, said_counts_as, counts_as, counted, counted_in, counts_fit}
 use Rattle.ir_reader.specs.Quantities.{has_form, last_function, quantities_fit, within_limits}
 use Rattle.ir_reader.specs.Text.{Outcome, no_reading, over_limit, nothing, said, outcome, is_top, next_state, within, dropped_within, said_by, formed, by_form, tokens_outcome, label_outcome, labelled, Fault, syntax_fault, Numbered, readings_by, readings, readings_in, opening}
 use Rattle.ir_reader.specs.Judged.{Placed, unread, empty, says, placed_said, placed_formed, placed_by_form, placed_tokens, placed_label, placed_labelled, placed, before, said_behind, said_in, said_of, ReadTo, OverLimit, number_behind, is_kept, Judged}
@@ -36,7 +36,7 @@ use Rattle.ir_reader.proofs.LineByLine.{with_lines, with_none, with_one}
 abbrev limited : State → Placed → Outcome
 limited s unread = no_reading
 limited s empty = nothing
-limited s (says what next) = if has_form is_dropped_form what then dropped_within what else within s next what
+limited s (says what passed next) = if has_form is_dropped_form what then dropped_within what passed else within s next what passed
 
 if_limited : (s : State) (b : Bool) (x : Outcome) (p : Placed) → x ≡ limited s p → cond b nothing x ≡ limited s (cond b empty p)
 if_limited s true x p e = refl
@@ -55,8 +55,11 @@ found-is : (s : State) (form : Form) (next : Place) (found : Found (List Item))
     → said_by s form next (ended (after found (λ items rest. Some (of_form form items, rest)))) ≡ limited s (placed_said next (ended (after found (λ items rest. Some (of_form form items, rest)))))
 unfolding after
 found-is s form next None = refl
-found-is s form next (Some (items, [])) = refl
-found-is s form next (Some (items, t ∷ rest)) = refl
+found-is s form next (Some (items, rest)) = ended-is (end_of rest)
+  where
+    ended-is : (end : Option Bool) → said_by s form next (option_map (λ passed. (of_form form items, passed)) end) ≡ limited s (placed_said next (option_map (λ passed. (of_form form items, passed)) end))
+    ended-is None = refl
+    ended-is (Some passed) = refl
 
 formed-is : (s : State) (form : Form) (ts : List Tok) (next : Option Place) → formed s form ts next ≡ limited s (placed_formed form ts next)
 unfolding line_at
@@ -110,7 +113,8 @@ behind-append : (text : TextForm) (l : NumberedLine) (ls back : List NumberedLin
     → said_behind l p place (λ next. said_in text next (ls ++ back)) ≡ then_said (said_behind l p place (λ next. said_in text next ls)) (λ next. said_in text next back)
 behind-append text l ls back place unread more = refl
 behind-append text l ls back place empty more = more place
-behind-append text l ls back place (says what next) more =
+behind-append text l ls back place (says what true next) more = refl
+behind-append text l ls back place (says what false next) more =
     ap (λ (r : Option (List Numbered × Place)). before (record { line = l.number; said = what }) r) (more next)
     ∙ before-then (record { line = l.number; said = what }) (said_in text next ls) (λ next. said_in text next back)
 
@@ -182,10 +186,10 @@ within-last text found x within one front back e =
     ]
 
 read_on : (text : TextForm) (front : List NumberedLine) (last : NumberedLine) (found : List Numbered) (place : Place) (what : Said) (next : Place)
-    → ReadTo text front found place → placed text place last.bytes ≡ says what next → within_limits text (map said_of found ++ what ∷ []) ≡ true
+    → ReadTo text front found place → placed text place last.bytes ≡ says what false next → within_limits text (map said_of found ++ what ∷ []) ≡ true
     → ReadTo text (front ++ last ∷ []) (found ++ record { line = last.number; said = what } ∷ []) next
 read_on text front last found place what next r is fits = record {
-  read = said_in-last text front last found place (says what next) r.read is;
+  read = said_in-last text front last found place (says what false next) r.read is;
   within = within-last text found (record { line = last.number; said = what }) r.within fits;
 }
 
@@ -238,13 +242,6 @@ record Leads (place : Place) (what : Said) (next : Place) : Type 0 where
   dropped : has_form is_dropped_form what ≡ true → (is_top place ≡ true) × (next ≡ place) × (said_counts_as what ≡ kinds.Nothing)
   no_relocate : is_top next ≡ true → said_counts_as what ≡ kinds.Relocate → ⊥
 
--- a line as it was found
-leads_as : (place : Place) (what other : Said) (to next : Place) → says what to ≡ says other next → Leads place what to → Leads place other next
-leads_as place what other to next e l =
-    let same : what ≡ other = cc in
-    let at : to ≡ next = cc in
-    rw (← same, ← at) l
-
 form_leads : (place next : Place) (form : Form) (items : List Item) → behind place form ≡ Some next → Leads place (of_form form items) next
 form_leads place next form items e = record {
   dropped = λ is.
@@ -257,38 +254,46 @@ form_leads place next form items e = record {
 label_leads : (place next : Place) (name : List ℕ) → Leads place (label name) next
 label_leads place next name = record { dropped = λ is. absurd cc; no_relocate = λ top kind. cc }
 
-found_leads : (place to next : Place) (form : Form) (what : Said) (found : Found (List Item)) → behind place form ≡ Some to
-    → placed_said to (ended (after found (λ items rest. Some (of_form form items, rest)))) ≡ says what next → Leads place what next
+-- a line as it was found
+abbrev LeadsTo : Place → Placed → Type 0
+LeadsTo place (says what passed next) = Leads place what next
+LeadsTo place _ = ⊤
+
+ended_leads : (place to : Place) (form : Form) (items : List Item) (end : Option Bool) → behind place form ≡ Some to → LeadsTo place (placed_said to (option_map (λ passed. (of_form form items, passed)) end))
+ended_leads place to form items None e = tt
+ended_leads place to form items (Some passed) e = form_leads place to form items e
+
+found_leads : (place to : Place) (form : Form) (found : Found (List Item)) → behind place form ≡ Some to
+    → LeadsTo place (placed_said to (ended (after found (λ items rest. Some (of_form form items, rest)))))
 unfolding after
-found_leads place to next form what None e is = absurd cc
-found_leads place to next form what (Some (items, t ∷ rest)) e is = absurd cc
-found_leads place to next form what (Some (items, [])) e is = leads_as place (of_form form items) what to next is (form_leads place to form items e)
+found_leads place to form None e = tt
+found_leads place to form (Some (items, rest)) e = ended_leads place to form items (end_of rest) e
 
-formed_leads : (place next : Place) (form : Form) (ts : List Tok) (what : Said) (to : Option Place) → behind place form ≡ to → placed_formed form ts to ≡ says what next → Leads place what next
+formed_leads : (place : Place) (form : Form) (ts : List Tok) (to : Option Place) → behind place form ≡ to → LeadsTo place (placed_formed form ts to)
 unfolding line_at
-formed_leads place next form ts what None e is = absurd cc
-formed_leads place next form ts what (Some to) e is = found_leads place to next form what (fit form ts) e is
+formed_leads place form ts None e = tt
+formed_leads place form ts (Some to) e = found_leads place to form (fit form ts) e
 
-by_form_leads : (place next : Place) (ts : List Tok) (what : Said) (form : Option Form) → placed_by_form place ts form ≡ says what next → Leads place what next
-by_form_leads place next ts what None is = absurd cc
-by_form_leads place next ts what (Some form) is = formed_leads place next form ts what (behind place form) refl is
+by_form_leads : (place : Place) (ts : List Tok) (form : Option Form) → LeadsTo place (placed_by_form place ts form)
+by_form_leads place ts None = tt
+by_form_leads place ts (Some form) = formed_leads place form ts (behind place form) refl
 
-chosen_leads : (place next : Place) (what : Said) (b : Bool) (p : Placed) → (p ≡ says what next → Leads place what next) → cond b empty p ≡ says what next → Leads place what next
-chosen_leads place next what true p more is = absurd cc
-chosen_leads place next what false p more is = more is
+chosen_leads : (place : Place) (b : Bool) (p : Placed) → LeadsTo place p → LeadsTo place (cond b empty p)
+chosen_leads place true p l = tt
+chosen_leads place false p l = l
 
-label_at_leads : (place next : Place) (name : List ℕ) (what : Said) (to : Option Place) → placed_label name to ≡ says what next → Leads place what next
-label_at_leads place next name what None is = absurd cc
-label_at_leads place next name what (Some to) is = leads_as place (label name) what to next is (label_leads place to name)
+label_at_leads : (place : Place) (name : List ℕ) (to : Option Place) → LeadsTo place (placed_label name to)
+label_at_leads place name None = tt
+label_at_leads place name (Some to) = label_leads place to name
 
-labelled_leads : (text : TextForm) (place next : Place) (bytes : List ℕ) (what : Said) (name : Option (List ℕ)) → placed_labelled text place bytes name ≡ says what next → Leads place what next
-labelled_leads text place next bytes what None is =
-    chosen_leads place next what (is_nil (tokens bytes)) _ (by_form_leads place next (tokens bytes) what (form_in text (tokens bytes))) is
-labelled_leads text place next bytes what (Some name) is = label_at_leads place next name what (behind_label place) is
+labelled_leads : (text : TextForm) (place : Place) (bytes : List ℕ) (name : Option (List ℕ)) → LeadsTo place (placed_labelled text place bytes name)
+labelled_leads text place bytes None = chosen_leads place (is_nil (tokens bytes)) _ (by_form_leads place (tokens bytes) (form_in text (tokens bytes)))
+labelled_leads text place bytes (Some name) = label_at_leads place name (behind_label place)
 
-leads : (text : TextForm) (place next : Place) (bytes : List ℕ) (what : Said) → placed text place bytes ≡ says what next → Leads place what next
+leads : (text : TextForm) (place next : Place) (bytes : List ℕ) (what : Said) (passed : Bool) → placed text place bytes ≡ says what passed next → Leads place what next
 unfolding placed
-leads text place next bytes what is = chosen_leads place next what (is_top place && is_metadata bytes) _ (labelled_leads text place next bytes what (label_of bytes)) is
+leads text place next bytes what passed is =
+    subst (λ (p : Placed). LeadsTo place p) is (chosen_leads place (is_top place && is_metadata bytes) _ (labelled_leads text place bytes (label_of bytes)))
 
 -- ---- the text
 
@@ -308,9 +313,9 @@ at_end lines s front found number r e = by (is_top s.place) refl
     by true top = record { found = found; place = s.place; whole = whole; outside = top; readings_are = append-nil (filter is_kept found) }
     by false top = inr (record { found = found; place = s.place; whole = whole; inside = top; number_is = rw (e, append-nil front) r.number_is })
 
-over_at : (s : State) (lines front back : List NumberedLine) (last : NumberedLine) (found : List Numbered) (number : ℕ) (what : Said) (next : Place) → Reached s front found number
-    → lines ≡ front ++ last ∷ back → placed s.form s.place last.bytes ≡ says what next → within_limits s.form (map said_of found ++ what ∷ []) ≡ false → OverLimit s.form lines last.number
-over_at s lines front back last found number what next r e is passes = record {
+over_at : (s : State) (lines front back : List NumberedLine) (last : NumberedLine) (found : List Numbered) (number : ℕ) (what : Said) (passed : Bool) (next : Place) → Reached s front found number
+    → lines ≡ front ++ last ∷ back → placed s.form s.place last.bytes ≡ says what passed next → (not passed && within_limits s.form (map said_of found ++ what ∷ [])) ≡ false → OverLimit s.form lines last.number
+over_at s lines front back last found number what passed next r e is passes = record {
   front = front;
   last = last;
   back = back;
@@ -320,6 +325,7 @@ over_at s lines front back last found number what next r e is passes = record {
   place = s.place;
   before_it = r.so_far;
   what = what;
+  passed = passed;
   next = next;
   read = is;
   passes = passes;
@@ -347,10 +353,10 @@ kept_one found x e = filter-append is_kept found (x ∷ []) ∙ ap (λ (xs : Lis
 
 -- a line that is dropped
 dropped_line : (s : State) (front : List NumberedLine) (last : NumberedLine) (found : List Numbered) (number : ℕ) (what : Said) (next : Place) → Reached s front found number
-    → placed s.form s.place last.bytes ≡ says what next → has_form is_dropped_form what ≡ true → said_fits what ≡ true
+    → placed s.form s.place last.bytes ≡ says what false next → has_form is_dropped_form what ≡ true → said_fits what ≡ true
     → Reached s (front ++ last ∷ []) (found ++ record { line = last.number; said = what } ∷ []) (last.number + 1)
 dropped_line s front last found number what next r is dropped fits =
-    let l = (leads s.form s.place next last.bytes what is).dropped dropped in
+    let l = (leads s.form s.place next last.bytes what false is).dropped dropped in
     let counts : IsCounted s.form s.counts (map said_of found ++ what ∷ []) = counted-dropped s.form s.counts (map said_of found) what l.2 (r.outside l.0) r.counts in
     let each = each_fits s.form (map said_of found) (whole_front s.form found r.so_far.within) in
     let good : within_limits s.form (map said_of found ++ what ∷ []) ≡ true
@@ -379,7 +385,7 @@ no_relocates s what next l top = by s.form (said_counts_as what) refl
     by text_forms.Rewritten kinds.Nothing is = refl
 
 kept_line : (s : State) (front : List NumberedLine) (last : NumberedLine) (found : List Numbered) (number : ℕ) (what : Said) (next : Place) → Reached s front found number
-    → placed s.form s.place last.bytes ≡ says what next → said_fits what ≡ true → counts_fit (next_state s next what).counts ≡ true
+    → placed s.form s.place last.bytes ≡ says what false next → said_fits what ≡ true → counts_fit (next_state s next what).counts ≡ true
     → Reached (next_state s next what) (front ++ last ∷ []) (found ++ record { line = last.number; said = what } ∷ []) (last.number + 1)
 kept_line s front last found number what next r is fits few =
     let counts : IsCounted s.form (next_state s next what).counts (map said_of found ++ what ∷ []) = counted-kept s.form s.counts (map said_of found) what r.counts in
@@ -390,22 +396,25 @@ kept_line s front last found number what next r is fits few =
       so_far = read_on s.form front last found s.place what next r.so_far is good;
       fits = few;
       counts = rw (map-append said_of found (record { line = last.number; said = what } ∷ [])) counts;
-      outside = no_relocates s what next (leads s.form s.place next last.bytes what is);
+      outside = no_relocates s what next (leads s.form s.place next last.bytes what false is);
       number_is = number_behind-last 1 front last;
     }
 
 -- a line over a limit
-not_by_itself : (s : State) (found : List Numbered) (what : Said) (front : List NumberedLine) (number : ℕ) → Reached s front found number → said_fits what ≡ false
-    → within_limits s.form (map said_of found ++ what ∷ []) ≡ false
-not_by_itself s found what front number r misfits =
-    all_fit s.form (map said_of found) what (quantities_fit s.form (map said_of found ++ what ∷ [])) (each_fits s.form (map said_of found) (whole_front s.form found r.so_far.within)) refl ∙ rw misfits refl
+over_limit_by : (s : State) (found : List Numbered) (what : Said) (passed q : Bool) (front : List NumberedLine) (number : ℕ) → Reached s front found number
+    → quantities_fit s.form (map said_of found ++ what ∷ []) ≡ q → (line_fits what passed && q) ≡ false → (not passed && within_limits s.form (map said_of found ++ what ∷ [])) ≡ false
+over_limit_by s found what true q front number r quantities misfits = refl
+over_limit_by s found what false q front number r quantities misfits =
+    all_fit s.form (map said_of found) what q (each_fits s.form (map said_of found) (whole_front s.form found r.so_far.within)) quantities ∙ misfits
 
-not_with_all : (s : State) (found : List Numbered) (what : Said) (next : Place) (front : List NumberedLine) (number : ℕ) → Reached s front found number
-    → (said_fits what && counts_fit (next_state s next what).counts) ≡ false → within_limits s.form (map said_of found ++ what ∷ []) ≡ false
-not_with_all s found what next front number r misfits =
-    let counts : IsCounted s.form (next_state s next what).counts (map said_of found ++ what ∷ []) = counted-kept s.form s.counts (map said_of found) what r.counts in
-    all_fit s.form (map said_of found) what (counts_fit (next_state s next what).counts) (each_fits s.form (map said_of found) (whole_front s.form found r.so_far.within))
-    (sym (fits-are s.form (next_state s next what).counts (map said_of found ++ what ∷ []) counts)) ∙ misfits
+-- a line that fits has no note
+unnoted : (what : Said) (passed : Bool) (next : Place) (p : Placed) → p ≡ says what passed next → line_fits what passed ≡ true → (p ≡ says what false next) × (said_fits what ≡ true)
+unnoted what true next p is fits = absurd cc
+unnoted what false next p is fits = (is, fits)
+
+and_false : (b c : Bool) → b ≡ false → (b && c) ≡ false
+and_false false c e = refl
+and_false true c e = absurd cc
 
 at_line : (lines : List NumberedLine) (l : NumberedLine) (ls : List NumberedLine) → Rest lines ls → Rest lines (l ∷ ls)
 unfolding Rest readings
@@ -417,29 +426,38 @@ at_line lines l ls rest s front found number r e = rw (outcome-is s l.bytes r.fi
     Comes : Outcome → Type 0
     Comes o = Judged s.form lines (with_lines (filter is_kept found) (readings_by o l.number more s))
 
-    dropped : (what : Said) (next : Place) → placed s.form s.place l.bytes ≡ says what next → has_form is_dropped_form what ≡ true → (b : Bool) → said_fits what ≡ b → Comes (if b then nothing else over_limit)
-    dropped what next is is_dropped true fits =
+    dropped : (what : Said) (passed : Bool) (next : Place) → placed s.form s.place l.bytes ≡ says what passed next → has_form is_dropped_form what ≡ true
+        → (b : Bool) → line_fits what passed ≡ b → Comes (if b then nothing else over_limit)
+    dropped what passed next is is_dropped true fits =
+        let u = unnoted what passed next (placed s.form s.place l.bytes) is fits in
         subst (λ (front : List Numbered). Judged s.form lines (with_lines front (more s))) (kept_dropped found (record { line = l.number; said = what }) is_dropped)
-        (rest s (front ++ l ∷ []) (found ++ record { line = l.number; said = what } ∷ []) (l.number + 1) (dropped_line s front l found number what next r is is_dropped fits) (on lines front ls l e))
-    dropped what next is is_dropped false fits = over_at s lines front ls l found number what next r e is (not_by_itself s found what front number r fits)
+        (rest s (front ++ l ∷ []) (found ++ record { line = l.number; said = what } ∷ []) (l.number + 1) (dropped_line s front l found number what next r u.0 is_dropped u.1) (on lines front ls l e))
+    dropped what passed next is is_dropped false misfits =
+        over_at s lines front ls l found number what passed next r e is
+        (over_limit_by s found what passed (quantities_fit s.form (map said_of found ++ what ∷ [])) front number r refl (and_false (line_fits what passed) _ misfits))
 
-    kept : (what : Said) (next : Place) → placed s.form s.place l.bytes ≡ says what next → has_form is_dropped_form what ≡ false
-        → (b : Bool) → (said_fits what && counts_fit (next_state s next what).counts) ≡ b → Comes (if b then said what (next_state s next what) else over_limit)
-    kept what next is is_kept_form true fits =
-        let h = both (said_fits what) (counts_fit (next_state s next what).counts) fits in
+    kept : (what : Said) (passed : Bool) (next : Place) → placed s.form s.place l.bytes ≡ says what passed next → has_form is_dropped_form what ≡ false
+        → (b : Bool) → (line_fits what passed && counts_fit (next_state s next what).counts) ≡ b → Comes (if b then said what (next_state s next what) else over_limit)
+    kept what passed next is is_kept_form true fits =
+        let h = both (line_fits what passed) (counts_fit (next_state s next what).counts) fits in
+        let u = unnoted what passed next (placed s.form s.place l.bytes) is h.0 in
         rw (with_one (filter is_kept found) (record { line = l.number; said = what }) (more (next_state s next what)))
         (subst (λ (front : List Numbered). Judged s.form lines (with_lines front (more (next_state s next what)))) (kept_one found (record { line = l.number; said = what }) is_kept_form)
-        (rest (next_state s next what) (front ++ l ∷ []) (found ++ record { line = l.number; said = what } ∷ []) (l.number + 1) (kept_line s front l found number what next r is h.0 h.1) (on lines front ls l e)))
-    kept what next is is_kept_form false fits = over_at s lines front ls l found number what next r e is (not_with_all s found what next front number r fits)
+        (rest (next_state s next what) (front ++ l ∷ []) (found ++ record { line = l.number; said = what } ∷ []) (l.number + 1) (kept_line s front l found number what next r u.0 u.1 h.1) (on lines front ls l e)))
+    kept what passed next is is_kept_form false misfits =
+        let counts : IsCounted s.form (next_state s next what).counts (map said_of found ++ what ∷ []) = counted-kept s.form s.counts (map said_of found) what r.counts in
+        over_at s lines front ls l found number what passed next r e is
+        (over_limit_by s found what passed (counts_fit (next_state s next what).counts) front number r (sym (fits-are s.form (next_state s next what).counts (map said_of found ++ what ∷ []) counts)) misfits)
 
-    chosen : (what : Said) (next : Place) → placed s.form s.place l.bytes ≡ says what next → (b : Bool) → has_form is_dropped_form what ≡ b → Comes (if b then dropped_within what else within s next what)
-    chosen what next is true is_dropped = dropped what next is is_dropped (said_fits what) refl
-    chosen what next is false is_kept_form = kept what next is is_kept_form (said_fits what && counts_fit (next_state s next what).counts) refl
+    chosen : (what : Said) (passed : Bool) (next : Place) → placed s.form s.place l.bytes ≡ says what passed next → (b : Bool) → has_form is_dropped_form what ≡ b
+        → Comes (if b then dropped_within what passed else within s next what passed)
+    chosen what passed next is true is_dropped = dropped what passed next is is_dropped (line_fits what passed) refl
+    chosen what passed next is false is_kept_form = kept what passed next is is_kept_form (line_fits what passed && counts_fit (next_state s next what).counts) refl
 
     by : (p : Placed) → placed s.form s.place l.bytes ≡ p → Comes (limited s p)
     by unread is = inl (record { front = front; last = l; back = ls; lines_are = e; number_is = refl; found = found; place = s.place; before_it = r.so_far; none = is })
     by empty is = rest s (front ++ l ∷ []) found (l.number + 1) (past_line s front l found number r is) (on lines front ls l e)
-    by (says what next) is = chosen what next is (has_form is_dropped_form what) refl
+    by (says what passed next) is = chosen what passed next is (has_form is_dropped_form what) refl
 
 judge : (lines left : List NumberedLine) → Rest lines left
 judge lines [] = at_end lines

@@ -20,12 +20,12 @@ pub data Placed : Type 0 where
   unread : Placed
   -- an empty line
   empty : Placed
-  -- what it says, and the place behind it
-  says : Said → Place → Placed
+  -- what it says, whether a width or number in it passed its limit, and the place behind it
+  says : Said → Bool → Place → Placed
 
-abbrev pub placed_said : Place → Option Said → Placed
+abbrev pub placed_said : Place → Option (Said × Bool) → Placed
 placed_said next None = unread
-placed_said next (Some what) = says what next
+placed_said next (Some (what, passed)) = says what passed next
 
 abbrev pub placed_formed : Form → List Tok → Option Place → Placed
 placed_formed form ts None = unread
@@ -40,7 +40,7 @@ placed_tokens text place ts = if is_nil ts then empty else placed_by_form place 
 
 abbrev pub placed_label : List ℕ → Option Place → Placed
 placed_label name None = unread
-placed_label name (Some next) = says (label name) next
+placed_label name (Some next) = says (label name) false next
 
 abbrev pub placed_labelled : TextForm → Place → List ℕ → Option (List ℕ) → Placed
 placed_labelled text place bytes None = placed_tokens text place (tokens bytes)
@@ -59,9 +59,11 @@ before x (Some read) = Some (x ∷ read.0, read.1)
 abbrev pub said_behind : NumberedLine → Placed → Place → (Place → Option (List Numbered × Place)) → Option (List Numbered × Place)
 said_behind l unread place more = None
 said_behind l empty place more = more place
-said_behind l (says what next) place more = before (record { line = l.number; said = what }) (more next)
+said_behind l (says what true next) place more = None
+said_behind l (says what false next) place more = before (record { line = l.number; said = what }) (more next)
 
--- what the lines say, each in its place, and the place behind the last one; none where one has no reading in its place
+-- what the lines say, each in its place, and the place behind the last one; none where one has no reading in its place or a width
+-- or number that passed its limit
 unfoldable pub said_in : TextForm → Place → List NumberedLine → Option (List Numbered × Place)
 said_in text place [] = Some ([], place)
 said_in text place (l ∷ ls) = said_behind l (placed text place l.bytes) place (λ next. said_in text next ls)
@@ -87,9 +89,10 @@ pub record OverLimit (text : TextForm) (lines : List NumberedLine) (number : ℕ
   pub place : Place
   pub before_it : ReadTo text front found place
   pub what : Said
+  pub passed : Bool
   pub next : Place
-  pub read : placed text place last.bytes ≡ says what next
-  pub passes : within_limits text (map said_of found ++ what ∷ []) ≡ false
+  pub read : placed text place last.bytes ≡ says what passed next
+  pub passes : (not passed && within_limits text (map said_of found ++ what ∷ [])) ≡ false
 
 -- the first line without a reading in its place
 pub record Unread (text : TextForm) (lines : List NumberedLine) (number : ℕ) : Type 0 where

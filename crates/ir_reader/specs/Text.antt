@@ -14,7 +14,7 @@ use Rattle.line_parts.specs.Gives.{is_nil}
 use Rattle.line_forms.specs.Forms.{form_in, is_dropped_form}
 use Rattle.ir_reader.specs.Places.{behind, behind_label}
 use Rattle.line_forms.specs.Seen.{Said, label, line_at, ended}
-use Rattle.ir_reader.specs.Limits.{said_fits, said_counts_as, counted, counted_in, counts_fit}
+use Rattle.ir_reader.specs.Limits.{line_fits, said_counts_as, counted, counted_in, counts_fit}
 
 -- what a line comes to
 pub data Outcome : Type 0 where
@@ -34,16 +34,16 @@ abbrev pub next_state : State → Place → Said → State
 next_state s place what = record { form = s.form; place = place; counts = counted (counted_in s.form (said_counts_as what)) s.counts }
 
 -- a reading, if it passes no limit
-abbrev pub within : State → Place → Said → Outcome
-within s place what = if said_fits what && counts_fit (next_state s place what).counts then said what (next_state s place what) else over_limit
+abbrev pub within : State → Place → Said → Bool → Outcome
+within s place what passed = if line_fits what passed && counts_fit (next_state s place what).counts then said what (next_state s place what) else over_limit
 
 -- a line that is dropped, if it passes no limit
-abbrev pub dropped_within : Said → Outcome
-dropped_within what = if said_fits what then nothing else over_limit
+abbrev pub dropped_within : Said → Bool → Outcome
+dropped_within what passed = if line_fits what passed then nothing else over_limit
 
-abbrev pub said_by : State → Form → Place → Option Said → Outcome
+abbrev pub said_by : State → Form → Place → Option (Said × Bool) → Outcome
 said_by s form place None = no_reading
-said_by s form place (Some what) = if is_dropped_form form then dropped_within what else within s place what
+said_by s form place (Some (what, passed)) = if is_dropped_form form then dropped_within what passed else within s place what passed
 
 -- a line of this form
 abbrev pub formed : State → Form → List Tok → Option Place → Outcome

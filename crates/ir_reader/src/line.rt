@@ -10,7 +10,7 @@ ghost use Rattle.ir_reader.specs.Reads.{AfterLine};
 ghost use Rattle.ir_reader.specs.Outcomes.{IsFaultOf};
 
 use crate::faults::LineFault;
-use crate::limits::{answer_fits, counted_as, reading_fits};
+use crate::limits::{counted_as, reading_fits};
 use crate::raw::NumberedReading;
 use crate::states::{Counted, Place, State};
 use crate::woven::Woven;
@@ -31,13 +31,18 @@ impl Place {
 }
 
 // A line that is dropped, if it passes no limit.
-fn dropped(which: DroppedLine, answer: Option<TypeWord>) -> Result<(), LineFault>
-    ensures ok { OnOk result (dropped_within (of_form (Form.Dropped which) (dropped_says which answer)) ≡ nothing) }
-    ensures fault { IfErr result (λ fault. IsFaultOf fault (dropped_within (of_form (Form.Dropped which) (dropped_says which answer)))) }
+fn dropped(
+    _which: DroppedLine,
+    _answer: Option<TypeWord>,
+    passed: bool,
+) -> Result<(), LineFault>
+    ensures ok { OnOk result (dropped_within (of_form (Form.Dropped _which) (dropped_says _which _answer)) passed ≡ nothing) }
+    ensures fault { IfErr result (λ fault. IsFaultOf fault (dropped_within (of_form (Form.Dropped _which) (dropped_says _which _answer)) passed)) }
 {
-    match which {
-        DroppedLine::Family if !answer_fits(answer) => Err(LineFault::OverLimit),
-        _ => Ok(()),
+    if passed {
+        Err(LineFault::OverLimit)
+    } else {
+        Ok(())
     }
 }
 
@@ -49,16 +54,17 @@ impl State {
         place: Place,
         line: u32,
         reading: Reading<'a>,
+        passed: bool,
         readings: &mut Woven<'a>,
     ) -> Result<(), LineFault>
         requires { IsTrue (counts_fit self.old.counts) }
-        ensures ok { OnOk result (AfterLine (within self.old place (seen reading.entry)) line self.old self.new
+        ensures ok { OnOk result (AfterLine (within self.old place (seen reading.entry) passed) line self.old self.new
             (map seen_numbered readings.old) (map seen_numbered readings.new)) }
-        ensures fault { IfErr result (λ fault. IsFaultOf fault (within self.old place (seen reading.entry))) }
+        ensures fault { IfErr result (λ fault. IsFaultOf fault (within self.old place (seen reading.entry) passed)) }
         ensures counts { OnOk result (IsTrue (counts_fit self.new.counts)) }
     {
         let counts = self.counts.with(counted_as(&reading).in_form(self.form));
-        if !(reading_fits(&reading) && counts.fit()) {
+        if passed || !(reading_fits(&reading) && counts.fit()) {
             return Err(LineFault::OverLimit);
         }
         if readings
@@ -100,12 +106,12 @@ impl State {
         };
         match form {
             Form::Dropped(which) => {
-                let answer = whole_dropped(&mut cursor, which)?;
-                dropped(which, answer)
+                let (answer, passed) = whole_dropped(&mut cursor, which)?;
+                dropped(which, answer, passed)
             }
             _ => {
-                let reading = whole_kept(&mut cursor, alloc, form, name)?;
-                self.keep(alloc, place, line.number, reading, readings)
+                let (reading, passed) = whole_kept(&mut cursor, alloc, form, name)?;
+                self.keep(alloc, place, line.number, reading, passed, readings)
             }
         }
     }

@@ -1,13 +1,13 @@
 -- Which lines of the table are lines of a text in a form: in the rewritten form the function that a line calls or
 -- declares tells whether it is a line of a statepoint group.
-use Rattle.std.proofs.Common.{◌≡◌, ℕ, min, Bool, true, false, cond, ◌&&◌, ◌||◌, eqb, List, [], ◌∷◌, ◌++◌, Option, Some, None, refl, sym, ap, ◌∙◌}
+use Rattle.std.proofs.Common.{◌≡◌, ℕ, Bool, true, false, cond, ◌&&◌, ◌||◌, eqb, List, [], ◌∷◌, ◌++◌, Option, Some, None, refl, sym, ap, ◌∙◌}
 use Rattle.std.specs.Prelude.{codes, not, drop}
 use Rattle.std.specs.List.{list_all, list_any}
 use Rattle.std.specs.Str.{bytes_eq}
 use Rattle.std.proofs.lemmas.Bool.{true≢false, eqb-true}
 use Rattle.std.proofs.lemmas.List.Folds.{list_any-append}
 use Rattle.std.proofs.lemmas.Slice.Eq.{bytes_eq-Decides}
-use Rattle.sp_text.specs.Tokens.{Tok, tok, is_numeral, are_digits, is_nothing}
+use Rattle.sp_text.specs.Tokens.{Tok, tok, bad, over, note, is_numeral, are_digits, is_nothing}
 use Rattle.sp_text.specs.declared.tokens.Kind.TheVariants as kinds
 use Rattle.ir_ast.specs.declared.modules.Form.{Form as TextForm}
 use Rattle.ir_ast.specs.declared.modules.Form.TheVariants as text_forms
@@ -19,12 +19,12 @@ use Rattle.line_parts.specs.declared.readings.TypeWord.TheVariants as types
 use Rattle.line_forms.specs.declared.forms.DroppedLine.TheVariants as drop_lines
 use Rattle.line_forms.specs.declared.forms.Form.{Form}
 use Rattle.line_forms.specs.declared.forms.Form.TheVariants as forms
-use Rattle.line_parts.specs.Gives.{Found, after, one_at, with_rest}
+use Rattle.line_parts.specs.Gives.{Found, after, one_at, with_rest, noted}
 use Rattle.line_tokens.specs.Marks.{is_word, is_quoted, is_hash, global_of, is_this, is_global, stands, begins}
-use Rattle.line_tokens.specs.Numbers.{width_of, decimal}
+use Rattle.line_tokens.specs.Numbers.{width_of, width_passes, width_within, decimal}
 use Rattle.line_parts.specs.Drops.{past, past_all}
 use Rattle.line_tokens.specs.Families.{statepoint_name, relocate_name, result_front, result_suffix, is_suffix, is_result_name, is_family_name, is_result_of, ends_in}
-use Rattle.line_parts.specs.Parts.{word_at, mark_at, local_at, global_at, value_at, case_value_at, addrspace_at, pointer_at, spelled_type_at, type_behind, allowed_type_at, is_value_type, is_answer_type, is_cast_type, is_scalar_type, is_managed, place_at, strategy_at, to_brace_at}
+use Rattle.line_parts.specs.Parts.{word_at, mark_at, local_at, global_at, width_at, value_at, case_value_at, addrspace_at, pointer_at, spelled_type_at, type_behind, allowed_type_at, is_value_type, is_answer_type, is_cast_type, is_scalar_type, is_managed, place_at, strategy_at, to_brace_at}
 use Rattle.line_tokens.specs.Words.{pred_of}
 use Rattle.line_parts.specs.Lists.{Named, Given, fields_at, entries_at, head_at, called_at, arguments_at, all_passed_at, is_task_start}
 use Rattle.line_parts.specs.Groups.{number_at, zero_at, token_at, types_at, handed_at, closing_at, live_at, result_at, named_result, suffix_of, is_family, declares_family, family_answer_at, bracketing_at}
@@ -115,7 +115,7 @@ unnamed_part a_family ts here rest names e = nothing_unnamed (one_at (stands dec
 unnamed_part a_bracketing ts here rest names e = nothing_unnamed (bracketing_at ts) here rest e
 unnamed_part a_local ts here rest names e = says_unnamed name (local_at ts) (λ x. refl) here rest e
 unnamed_part a_layout_name ts here rest names e = says_unnamed layout_name (local_at ts) (λ x. refl) here rest e
-unnamed_part a_width ts here rest names e = says_unnamed width (one_at width_of ts) (λ x. refl) here rest e
+unnamed_part a_width ts here rest names e = says_unnamed width (width_at ts) (λ x. refl) here rest e
 unnamed_part a_type ts here rest names e = says_unnamed ty (allowed_type_at is_value_type ts) (λ x. refl) here rest e
 unnamed_part an_answer ts here rest names e = says_unnamed ty (allowed_type_at is_answer_type ts) (λ x. refl) here rest e
 unnamed_part a_cast_type ts here rest names e = says_unnamed ty (allowed_type_at is_cast_type ts) (λ x. refl) here rest e
@@ -179,6 +179,7 @@ with_rest-keeps ts rest (Some x) e = e
 one-keeps : {A : Type 0} (ts : List Tok) (says : Tok → Option A) (rest : List Tok) → ((bytes : List ℕ) → says (tok kinds.Global bytes) ≡ None) → first_global ts ≡ first_global rest → Keeps ts (one_at says rest)
 unfolding one_at first_global
 one-keeps ts says [] none e = tt
+one-keeps ts says (over ∷ rest) none e = tt
 one-keeps ts says (tok kinds.Global bytes ∷ rest) none e = rw none tt
 one-keeps ts says (t ∷ rest) none e = with_rest-keeps ts rest (says t) e
 
@@ -192,8 +193,20 @@ pointer-keeps : (ts rest : List Tok) → first_global ts ≡ first_global rest �
 unfolding pointer_at
 pointer-keeps ts rest e = choose-keeps ts (begins (is_word (codes "addrspace")) rest) _ _ (after-keeps ts _ _ (addrspace-keeps ts rest e) (λ _ r k. k)) e
 
+-- a note names none
+note-first : (ts : List Tok) → first_global (note ts) ≡ first_global ts
+unfolding note first_global
+note-first [] = refl
+note-first (over ∷ ts) = refl
+note-first (bad ∷ ts) = refl
+note-first (tok kind bytes ∷ ts) = ap (or_else (global_of (tok kind bytes))) (note-first ts)
+
+noted-first : (passes : Bool) (ts : List Tok) → first_global (noted passes ts) ≡ first_global ts
+noted-first true ts = note-first ts
+noted-first false ts = refl
+
 word_type-keeps : (ts rest : List Tok) (bytes : List ℕ) (bits : Option ℕ) → first_global ts ≡ first_global rest → Keeps ts (type_behind (tok kinds.Word bytes) rest bits)
-word_type-keeps ts rest bytes (Some bits) e = e
+word_type-keeps ts rest bytes (Some bits) e = e ∙ sym (noted-first (width_passes (tok kinds.Word bytes)) rest)
 word_type-keeps ts rest bytes None e = choose-keeps ts (bytes_eq bytes (codes "void")) _ _ e (choose-keeps ts (bytes_eq bytes (codes "ptr")) _ _ (pointer-keeps ts rest e) tt)
 
 spelled-keeps : (ts : List Tok) → Keeps ts (spelled_type_at ts)
@@ -350,7 +363,7 @@ suffix_is types.Plain ts rest e v = absurd cc
 suffix_is types.Managed ts rest e v = refl
 suffix_is (types.Int n) [] rest e v = absurd cc
 suffix_is (types.Int n) (tok kinds.Word [] ∷ ts) rest e v = absurd (word_by false false ts n rest e)
-suffix_is (types.Int n) (tok kinds.Word (i ∷ digits) ∷ ts) rest e v = word_suffix i digits ts n rest (min (decimal digits) 65) (eqb i 105 && is_numeral digits) refl e
+suffix_is (types.Int n) (tok kinds.Word (i ∷ digits) ∷ ts) rest e v = word_suffix i digits ts n rest (width_within (decimal digits)) (eqb i 105 && is_numeral digits) refl e
 suffix_is (types.Int n) (t ∷ ts) rest e v = absurd (word_by false false ts n rest e)
 
 if_some : {A : Type 0} (b : Bool) (x y : A × List Tok) → cond b (told x) None ≡ Some y → (b ≡ true) × (x ≡ y)

@@ -18,9 +18,9 @@ use Rattle.line_tokens.specs.declared.words.Flags.TheVariants as flags
 use Rattle.line_forms.specs.declared.forms.DroppedLine.TheVariants as drop_lines
 use Rattle.line_forms.specs.declared.forms.Form.{Form}
 use Rattle.line_forms.specs.declared.forms.Form.TheVariants as forms
-use Rattle.line_parts.specs.Gives.{Found, after, one_at, with_rest}
+use Rattle.line_parts.specs.Gives.{Found, after, one_at, with_rest, noted, one_noted_at}
 use Rattle.line_tokens.specs.Marks.{is_word, is_local, begins}
-use Rattle.line_tokens.specs.Numbers.{width_of}
+use Rattle.line_tokens.specs.Numbers.{width_of, width_passes}
 use Rattle.line_parts.specs.Drops.{past_all, past_dropped, is_one_of, flag_words}
 use Rattle.line_parts.specs.Parts.{spelled_type_at, allowed_type_at}
 use Rattle.line_forms.specs.Slots.{Slot, Item, name, layout_name, blank, m, w, dropped, a_local, a_layout_name, a_layout, a_width, a_scalar, a_type, part, parse}
@@ -311,10 +311,10 @@ width_said rest None e = absurd cc
 width_said rest (Some n) e = refl
 
 width_found : (ts : List Tok) → IsFound (part a_width ts) → form_of ts ≡ Some forms.Case
-unfolding part one_at after
+unfolding part one_noted_at after
 width_found [] e = absurd cc
 width_found (tok kinds.Word (i ∷ digits) ∷ ts) e =
-    let p = both (eqb i 105) (is_numeral digits) (chosen (eqb i 105 && is_numeral digits) _ (width_said ts (width_of (tok kinds.Word (i ∷ digits))) e)) in
+    let p = both (eqb i 105) (is_numeral digits) (chosen (eqb i 105 && is_numeral digits) _ (width_said (noted (width_passes (tok kinds.Word (i ∷ digits))) ts) (width_of (tok kinds.Word (i ∷ digits))) e)) in
     case_word i digits ts (eqb-true i 105 p.0) p.1
 width_found (t ∷ ts) e = absurd cc
 

@@ -1,5 +1,5 @@
 -- A reading as its form and what it says at the slots of that form.
-use Rattle.std.specs.Prelude.{◌≡◌, ℕ, List, [], ◌∷◌, drop, map, is_some, Option, Some, None, Result, Ok, Err, if◌then◌else◌}
+use Rattle.std.specs.Prelude.{◌≡◌, ℕ, Bool, List, [], ◌∷◌, drop, map, is_some, Option, Some, None, option_map, Result, Ok, Err}
 use Rattle.line_forms.specs.declared.forms.DroppedLine.{DroppedLine}
 use Rattle.line_forms.specs.declared.forms.DroppedLine.TheVariants as drop_lines
 use Rattle.line_forms.specs.declared.forms.Form.{Form}
@@ -11,7 +11,7 @@ use Rattle.sp_text.specs.Tokens.{Tok}
 use Rattle.line_parts.specs.declared.readings.TypeWord.{TypeWord}
 use Rattle.line_parts.specs.declared.faults.Stop.{Stop}
 use Rattle.line_parts.specs.declared.faults.Stop.TheVariants as stops
-use Rattle.line_parts.specs.Gives.{Found, after, is_nil}
+use Rattle.line_parts.specs.Gives.{Found, after, end_of}
 use Rattle.line_parts.specs.Seen.{seen_value, seen_argument, seen_passed, seen_entry}
 use Rattle.ir_ast.specs.declared.modules.Form.{Form as TextForm}
 use Rattle.line_forms.specs.Forms.{slots, fit, form_in, is_operator_form}
@@ -77,10 +77,10 @@ opened_at form (Some x) ts = behind_operator form x ts
 abbrev pub Opens : TextForm → List Tok → Form → Option (List ℕ) → List Tok → Type 0
 Opens text ts form x rest = (form_in text ts ≡ Some form) × (is_some x ≡ is_operator_form form) × (line_at form ts ≡ opened_at form x rest)
 
--- what a whole line says: nothing stands behind it
-abbrev pub ended : Found Said → Option Said
+-- what a whole line says, and whether a limit was passed in it: nothing else stands behind it
+abbrev pub ended : Found Said → Option (Said × Bool)
 ended None = None
-ended (Some (what, rest)) = if is_nil rest then Some what else None
+ended (Some (what, rest)) = option_map (λ passed. (what, passed)) (end_of rest)
 
 -- what a dropped line says: what a function of a statepoint group answers
 abbrev pub dropped_says : DroppedLine → Option TypeWord → List Item
@@ -88,7 +88,7 @@ dropped_says drop_lines.Family answer = family_answer answer ∷ []
 dropped_says _ answer = []
 
 -- what a function returned for a whole line, seen by view
-abbrev pub Reads : {X : Type 0} → (X → Said) → Result X Stop → Option Said → Type 0
-Reads view (Ok x) found = found ≡ Some (view x)
+abbrev pub Reads : {X : Type 0} → (X → Said) → Result (X × Bool) Stop → Option (Said × Bool) → Type 0
+Reads view (Ok x) found = found ≡ Some (view x.0, x.1)
 Reads view (Err stops.NoReading) found = found ≡ None
 Reads view (Err stops.Memory) found = Unit {0}

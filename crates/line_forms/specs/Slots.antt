@@ -7,9 +7,8 @@ use Rattle.ir_ast.specs.declared.ops.Pred.{Pred}
 use Rattle.line_tokens.specs.declared.words.Dropped.{Dropped}
 use Rattle.line_parts.specs.Gives.{Found, after, one_at}
 use Rattle.line_tokens.specs.Marks.{is_quoted, is_hash, is_global, stands}
-use Rattle.line_tokens.specs.Numbers.{width_of}
 use Rattle.line_parts.specs.Drops.{past_all}
-use Rattle.line_parts.specs.Parts.{Val, word_at, mark_at, local_at, global_at, value_at, case_value_at, allowed_type_at, is_value_type, is_answer_type, is_cast_type, is_scalar_type, is_managed, place_at, strategy_at, to_brace_at}
+use Rattle.line_parts.specs.Parts.{Val, word_at, mark_at, local_at, global_at, width_at, value_at, case_value_at, allowed_type_at, is_value_type, is_answer_type, is_cast_type, is_scalar_type, is_managed, place_at, strategy_at, to_brace_at}
 use Rattle.line_tokens.specs.Words.{pred_of}
 use Rattle.line_parts.specs.Lists.{Named, Given, fields_at, entries_at, head_at, called_at}
 use Rattle.line_parts.specs.Groups.{number_at, zero_at, token_at, types_at, handed_at, closing_at, live_at, result_at, declares_family, family_answer_at, bracketing_at}
@@ -110,7 +109,7 @@ part a_family ts = says_nothing (one_at (stands declares_family) ts)
 part a_bracketing ts = says_nothing (bracketing_at ts)
 part a_local ts = says name (local_at ts)
 part a_layout_name ts = says layout_name (local_at ts)
-part a_width ts = says width (one_at width_of ts)
+part a_width ts = says width (width_at ts)
 part a_type ts = says ty (allowed_type_at is_value_type ts)
 part an_answer ts = says ty (allowed_type_at is_answer_type ts)
 part a_cast_type ts = says ty (allowed_type_at is_cast_type ts)

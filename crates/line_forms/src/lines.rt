@@ -73,15 +73,15 @@ fn operated<'a>(
     }
 }
 
-/// What a whole line of this form says, from where it was opened on ([`opened_form`](crate::opened_form)): `name` is its result, where
-/// the cursor stands behind its operator.
+/// What a whole line of this form says, from where it was opened on ([`opened_form`](crate::opened_form)), and whether it passes
+/// a limit: `name` is its result, where the cursor stands behind its operator.
 #[inline(never)]
 pub fn whole_kept<'a>(
     cursor: &mut Cursor<'_, 'a>,
     alloc: Global,
     form: Form,
     name: Option<Name<'a>>,
-) -> Result<Reading<'a>, Stop>
+) -> Result<(Reading<'a>, bool), Stop>
     requires kept { is_dropped_form form ≡ false }
     requires opened { is_some (option_map seen_name name) ≡ is_operator_form form }
     ensures { Reads seen result (ended (opened_at form (option_map seen_name name.entry) cursor.old)) }
@@ -90,10 +90,9 @@ pub fn whole_kept<'a>(
         Some(name) => operated(cursor, alloc, form, name),
         None => kept(cursor, alloc, form),
     };
-    if cursor.is_at_end() {
-        read
-    } else {
-        Err(unread(read))
+    match cursor.end() {
+        Some(passed) => Ok((read?, passed)),
+        None => Err(unread(read)),
     }
 }
 
@@ -107,14 +106,17 @@ fn unread(read: Result<Reading, Stop>) -> Stop
     }
 }
 
-/// Passes a whole line that is dropped. The one thing that it may say is what a function of a statepoint group answers.
-pub fn whole_dropped(cursor: &mut Cursor, which: DroppedLine) -> Result<Option<TypeWord>, Stop>
+/// Passes a whole line that is dropped, and tells whether it passes a limit. The one thing that it may say is what a function of
+/// a statepoint group answers.
+pub fn whole_dropped(
+    cursor: &mut Cursor,
+    which: DroppedLine,
+) -> Result<(Option<TypeWord>, bool), Stop>
     ensures { Reads (λ answer. of_form (Form.Dropped which) (dropped_says which answer)) result (ended (line_at (Form.Dropped which) cursor.old)) }
 {
     let answer = dropped_line(cursor, which)?;
-    if cursor.is_at_end() {
-        Ok(answer)
-    } else {
-        Err(Stop::NoReading)
+    match cursor.end() {
+        Some(passed) => Ok((answer, passed)),
+        None => Err(Stop::NoReading),
     }
 }

@@ -2,12 +2,13 @@
 use Rattle.std.proofs.Common.{◌≡◌, ℕ, zero, suc, ◌+◌, ◌-◌, ◌<◌, ◌≤◌, Bool, true, false, cond, ◌&&◌, eqb, List, [], ◌∷◌, length, Option, Some, None, refl, sym, ap, ◌∙◌, arith}
 use Rattle.std.specs.Prelude.{codes, unwrap_or}
 use Rattle.std.specs.Str.{bytes_eq}
-use Rattle.sp_text.specs.Tokens.{Tok, tok}
+use Rattle.sp_text.specs.Tokens.{Tok, tok, bad, over}
 use Rattle.sp_text.specs.declared.tokens.Kind.TheVariants as kinds
 use Rattle.line_tokens.specs.declared.words.Dropped.{Dropped}
 use Rattle.line_tokens.specs.declared.words.Flags.{Flags}
 use Rattle.line_tokens.specs.declared.words.Dropped.TheVariants as drops
 use Rattle.line_tokens.specs.Marks.{is_word, is_mark, is_number, is_quoted, begins}
+use Rattle.line_parts.proofs.Notes.{count, count-more, count-le}
 use Rattle.line_parts.specs.Drops.{after_bracket, past_bracketing, past, past_quoted_value, past_word, past_group, past_head_attachment, past_attachment, past_alignment, past_one_of, past_group_beside, past_dropped, past_at_most, past_all, is_one_of, is_attribute_word, is_bang_name, is_bang_number, is_any_word, flag_words}
 
 if_some : {A : Type 0} (b : Bool) (x y : A) → cond b (Some x) None ≡ Some y → x ≡ y
@@ -17,9 +18,9 @@ if_some false x y e = absurd cc
 -- an option that says a shorter list
 abbrev Shorter : ℕ → Option (List Tok) → Type 0
 Shorter n None = Unit {0}
-Shorter n (Some rest) = length rest < n
+Shorter n (Some rest) = count rest < n
 
-shorter_is : (n : ℕ) (found : Option (List Tok)) (rest : List Tok) → Shorter n found → found ≡ Some rest → length rest < n
+shorter_is : (n : ℕ) (found : Option (List Tok)) (rest : List Tok) → Shorter n found → found ≡ Some rest → count rest < n
 shorter_is n None rest s e = absurd cc
 shorter_is n (Some r) rest s e = let same : r ≡ rest = cc in rw (← same) s
 
@@ -31,70 +32,79 @@ wider : (n m : ℕ) (found : Option (List Tok)) → n ≤ m → Shorter n found 
 wider n m None le s = tt
 wider n m (Some r) le s = omega arith
 
-after_bracket-shorter : (depth : ℕ) (ts : List Tok) → Shorter (length ts) (after_bracket depth ts)
+after_bracket-shorter : (depth : ℕ) (ts : List Tok) → Shorter (count ts) (after_bracket depth ts)
 unfolding after_bracket
 after_bracket-shorter depth [] = tt
-after_bracket-shorter depth (t ∷ ts) =
-    choose _ (is_mark (codes "(") t) _ _ (wider (length ts) _ _ (omega arith) (after_bracket-shorter (depth + 1) ts))
-    (choose _ (is_mark (codes ")") t) _ _ (choose _ (eqb depth 0) _ _ (omega arith) (wider (length ts) _ _ (omega arith) (after_bracket-shorter (depth - 1) ts)))
-    (wider (length ts) _ _ (omega arith) (after_bracket-shorter depth ts)))
+after_bracket-shorter depth (over ∷ ts) = after_bracket-shorter depth ts
+after_bracket-shorter depth (bad ∷ ts) = wider (count ts) _ _ (omega arith) (after_bracket-shorter depth ts)
+after_bracket-shorter depth (tok kind bytes ∷ ts) =
+    let t : Tok = tok kind bytes in
+    choose _ (is_mark (codes "(") t) _ _ (wider (count ts) _ _ (omega arith) (after_bracket-shorter (depth + 1) ts))
+    (choose _ (is_mark (codes ")") t) _ _ (choose _ (eqb depth 0) _ _ (omega arith) (wider (count ts) _ _ (omega arith) (after_bracket-shorter (depth - 1) ts)))
+    (wider (count ts) _ _ (omega arith) (after_bracket-shorter depth ts)))
 
-choose_le : (n : ℕ) (b : Bool) (x y : List Tok) → length x ≤ n → length y ≤ n → length (cond b x y) ≤ n
+choose_le : (n : ℕ) (b : Bool) (x y : List Tok) → count x ≤ n → count y ≤ n → count (cond b x y) ≤ n
 choose_le n true x y p q = p
 choose_le n false x y p q = q
 
-unwrap_le : (n : ℕ) (found : Option (List Tok)) (d : List Tok) → Shorter n found → length d ≤ n → length (unwrap_or found d) ≤ n
+unwrap_le : (n : ℕ) (found : Option (List Tok)) (d : List Tok) → Shorter n found → count d ≤ n → count (unwrap_or found d) ≤ n
 unwrap_le n None d s le = le
 unwrap_le n (Some r) d s le = omega arith
 
-past_bracketing-le : (ts : List Tok) → length (past_bracketing ts) ≤ length ts
+past_bracketing-le : (ts : List Tok) → count (past_bracketing ts) ≤ count ts
 past_bracketing-le [] = omega arith
 past_bracketing-le (t ∷ ts) = choose_le _ (is_mark (codes "(") t) _ _
-    (unwrap_le _ (after_bracket 0 ts) (t ∷ ts) (wider (length ts) _ _ (omega arith) (after_bracket-shorter 0 ts)) (omega arith)) (omega arith)
+    (unwrap_le _ (after_bracket 0 ts) (t ∷ ts) (wider (count ts) _ _ (count-more t ts) (after_bracket-shorter 0 ts)) (omega arith)) (omega arith)
 
-pub past-le : (test : Tok → Bool) (ts : List Tok) → length (past test ts) ≤ length ts
+pub past-le : (test : Tok → Bool) (ts : List Tok) → count (past test ts) ≤ count ts
 past-le test [] = omega arith
-past-le test (t ∷ ts) = choose_le _ (test t) _ _ (omega arith) (omega arith)
+past-le test (t ∷ ts) = choose_le _ (test t) _ _ (count-more t ts) (omega arith)
 
-past_quoted_value-le : (ts : List Tok) → length (past_quoted_value ts) ≤ length ts
+past_quoted_value-le : (ts : List Tok) → count (past_quoted_value ts) ≤ count ts
 past_quoted_value-le [] = omega arith
 past_quoted_value-le (e ∷ []) = omega arith
-past_quoted_value-le (e ∷ v ∷ ts) = choose_le _ (is_mark (codes "=") e && is_quoted v) _ _ (omega arith) (omega arith)
+past_quoted_value-le (e ∷ v ∷ ts) = choose_le _ (is_mark (codes "=") e && is_quoted v) _ _ (omega (arith, count-more v ts, count-more e (v ∷ ts))) (omega arith)
 
-past_word-le : (word : List ℕ) (ts : List Tok) → length (past_word word ts) ≤ length ts
+past_word-le : (word : List ℕ) (ts : List Tok) → count (past_word word ts) ≤ count ts
 past_word-le word ts = choose_le _ (bytes_eq word (codes "align") && begins is_number ts) _ _ (past-le is_number ts) (past_bracketing-le ts)
 
-past_group-shorter : (ts : List Tok) → Shorter (length ts) (past_group ts)
+past_group-shorter : (ts : List Tok) → Shorter (count ts) (past_group ts)
 past_group-shorter (tok kinds.Word bytes ∷ ts) = choose _ (is_attribute_word bytes) _ _ (omega (arith, past_word-le bytes ts)) tt
 past_group-shorter (tok kinds.Quoted bytes ∷ ts) = omega (arith, past_quoted_value-le ts)
 past_group-shorter (tok kinds.Hash bytes ∷ ts) = omega arith
 past_group-shorter _ = tt
 
-past_group_beside-shorter : (ts : List Tok) → Shorter (length ts) (past_group_beside ts)
+past_group_beside-shorter : (ts : List Tok) → Shorter (count ts) (past_group_beside ts)
 past_group_beside-shorter ts = choose _ (begins (is_word (codes "elementtype")) ts) _ _ tt (past_group-shorter ts)
 
-past_head_attachment-shorter : (ts : List Tok) → Shorter (length ts) (past_head_attachment ts)
+past_head_attachment-shorter : (ts : List Tok) → Shorter (count ts) (past_head_attachment ts)
 past_head_attachment-shorter [] = tt
 past_head_attachment-shorter (t ∷ []) = tt
-past_head_attachment-shorter (t ∷ u ∷ ts) = choose _ (is_bang_name t && is_bang_number u) _ _ (omega arith) tt
+past_head_attachment-shorter (over ∷ u ∷ ts) = tt
+past_head_attachment-shorter (bad ∷ u ∷ ts) = tt
+past_head_attachment-shorter (tok kind bytes ∷ u ∷ ts) = choose _ (is_bang_name (tok kind bytes) && is_bang_number u) _ _ (omega (arith, count-more u ts)) tt
 
-past_attachment-shorter : (ts : List Tok) → Shorter (length ts) (past_attachment ts)
+past_attachment-shorter : (ts : List Tok) → Shorter (count ts) (past_attachment ts)
 past_attachment-shorter [] = tt
 past_attachment-shorter (t ∷ []) = tt
 past_attachment-shorter (t ∷ u ∷ []) = tt
-past_attachment-shorter (t ∷ u ∷ v ∷ ts) = choose _ (is_mark (codes ",") t && is_bang_name u && is_bang_number v) _ _ (omega arith) tt
+past_attachment-shorter (over ∷ u ∷ v ∷ ts) = tt
+past_attachment-shorter (bad ∷ u ∷ v ∷ ts) = tt
+past_attachment-shorter (tok kind bytes ∷ u ∷ v ∷ ts) = choose _ (is_mark (codes ",") (tok kind bytes) && is_bang_name u && is_bang_number v) _ _ (omega (arith, count-more u (v ∷ ts), count-more v ts)) tt
 
-past_alignment-shorter : (ts : List Tok) → Shorter (length ts) (past_alignment ts)
+past_alignment-shorter : (ts : List Tok) → Shorter (count ts) (past_alignment ts)
 past_alignment-shorter [] = tt
 past_alignment-shorter (t ∷ []) = tt
 past_alignment-shorter (t ∷ u ∷ []) = tt
-past_alignment-shorter (t ∷ u ∷ v ∷ ts) = choose _ (is_mark (codes ",") t && is_word (codes "align") u && is_number v) _ _ (omega arith) tt
+past_alignment-shorter (over ∷ u ∷ v ∷ ts) = tt
+past_alignment-shorter (bad ∷ u ∷ v ∷ ts) = tt
+past_alignment-shorter (tok kind bytes ∷ u ∷ v ∷ ts) = choose _ (is_mark (codes ",") (tok kind bytes) && is_word (codes "align") u && is_number v) _ _ (omega (arith, count-more u (v ∷ ts), count-more v ts)) tt
 
-past_one_of-shorter : (words : List (List ℕ)) (ts : List Tok) → Shorter (length ts) (past_one_of words ts)
+past_one_of-shorter : (words : List (List ℕ)) (ts : List Tok) → Shorter (count ts) (past_one_of words ts)
 past_one_of-shorter words (tok kinds.Word bytes ∷ ts) = choose _ (is_one_of words bytes) _ _ (omega arith) tt
 past_one_of-shorter words _ = tt
 
-past_dropped-shorter : (what : Dropped) (ts : List Tok) → Shorter (length ts) (past_dropped what ts)
+past_dropped-shorter : (what : Dropped) (ts : List Tok) → Shorter (count ts) (past_dropped what ts)
 past_dropped-shorter drops.Groups ts = past_group-shorter ts
 past_dropped-shorter drops.BesideElementType ts = past_group_beside-shorter ts
 past_dropped-shorter drops.Attachments ts = past_attachment-shorter ts
@@ -102,8 +112,8 @@ past_dropped-shorter drops.HeadAttachments ts = past_head_attachment-shorter ts
 past_dropped-shorter drops.Alignments ts = past_alignment-shorter ts
 past_dropped-shorter (drops.Words which) ts = past_one_of-shorter (flag_words which) ts
 
-pub past_dropped-shrinks : (what : Dropped) (ts rest : List Tok) → past_dropped what ts ≡ Some rest → length rest < length ts
-past_dropped-shrinks what ts rest e = shorter_is (length ts) (past_dropped what ts) rest (past_dropped-shorter what ts) e
+pub past_dropped-shrinks : (what : Dropped) (ts rest : List Tok) → past_dropped what ts ≡ Some rest → count rest < count ts
+past_dropped-shrinks what ts rest e = shorter_is (count ts) (past_dropped what ts) rest (past_dropped-shorter what ts) e
 
 -- the list that goes on behind one, or this one
 abbrev pub goes_on : ℕ → Dropped → List Tok → Option (List Tok) → List Tok
@@ -119,51 +129,47 @@ unfolding past_at_most
 unroll n what ts found e = chosen n what ts (past_dropped what ts) ∙ ap (λ (f : Option (List Tok)). goes_on n what ts f) e
 
 same_behind : (n m : ℕ) (what : Dropped) (ts : List Tok) (found : Option (List Tok)) → past_dropped what ts ≡ found
-    → ((rest : List Tok) → length rest < length ts → past_at_most n what rest ≡ past_at_most m what rest)
+    → ((rest : List Tok) → count rest < count ts → past_at_most n what rest ≡ past_at_most m what rest)
     → past_at_most (suc n) what ts ≡ past_at_most (suc m) what ts
 same_behind n m what ts None e same = unroll n what ts None e ∙ sym (unroll m what ts None e)
 same_behind n m what ts (Some rest) e same = unroll n what ts (Some rest) e ∙ same rest (past_dropped-shrinks what ts rest e) ∙ sym (unroll m what ts (Some rest) e)
 
-none_at_nil : (what : Dropped) (found : Option (List Tok)) → past_dropped what [] ≡ found → found ≡ None
-none_at_nil what None e = refl
-none_at_nil what (Some rest) e = absurd (omega (arith, past_dropped-shrinks what [] rest e))
+none_at_end : (what : Dropped) (ts : List Tok) (found : Option (List Tok)) → count ts ≤ 0 → past_dropped what ts ≡ found → found ≡ None
+none_at_end what ts None le e = refl
+none_at_end what ts (Some rest) le e = absurd (omega (arith, past_dropped-shrinks what ts rest e))
 
-at_nil : (n : ℕ) (what : Dropped) → past_at_most n what [] ≡ []
+at_end : (n : ℕ) (what : Dropped) (ts : List Tok) → count ts ≤ 0 → past_at_most n what ts ≡ ts
 unfolding past_at_most
-at_nil zero what = refl
-at_nil (suc n) what = unroll n what [] None (none_at_nil what (past_dropped what []) refl)
-
-nil_is : (ts : List Tok) → length ts ≤ 0 → ts ≡ []
-nil_is [] le = refl
-nil_is (t ∷ ts) le = absurd (omega arith)
+at_end zero what ts le = refl
+at_end (suc n) what ts le = unroll n what ts None (none_at_end what ts (past_dropped what ts) le refl)
 
 -- more than there are tokens is as much as there are tokens
-enough : (n m : ℕ) (what : Dropped) (ts : List Tok) → length ts ≤ n → length ts ≤ m → past_at_most n what ts ≡ past_at_most m what ts
-enough zero m what ts le me = rw (nil_is ts le, at_nil zero what, at_nil m what) refl
-enough (suc n) zero what ts le me = rw (nil_is ts me, at_nil (suc n) what, at_nil zero what) refl
+enough : (n m : ℕ) (what : Dropped) (ts : List Tok) → count ts ≤ n → count ts ≤ m → past_at_most n what ts ≡ past_at_most m what ts
+enough zero m what ts le me = at_end zero what ts le ∙ sym (at_end m what ts le)
+enough (suc n) zero what ts le me = at_end (suc n) what ts me ∙ sym (at_end zero what ts me)
 enough (suc n) (suc m) what ts le me = same_behind n m what ts (past_dropped what ts) refl (λ rest lt. enough n m what rest (omega arith) (omega arith))
 
 pub past_all-none : (what : Dropped) (ts : List Tok) → past_dropped what ts ≡ None → past_all what ts ≡ ts
 unfolding past_all
-past_all-none what [] e = at_nil 0 what
+past_all-none what [] e = at_end 0 what [] (omega arith)
 past_all-none what (t ∷ ts) e = unroll (length ts) what (t ∷ ts) None e
 
 pub past_all-some : (what : Dropped) (ts rest : List Tok) → past_dropped what ts ≡ Some rest → past_all what ts ≡ past_all what rest
 unfolding past_all
 past_all-some what [] rest e = absurd (omega (arith, past_dropped-shrinks what [] rest e))
-past_all-some what (t ∷ ts) rest e = unroll (length ts) what (t ∷ ts) (Some rest) e ∙ enough (length ts) (length rest) what rest (omega (arith, past_dropped-shrinks what (t ∷ ts) rest e)) (omega arith)
+past_all-some what (t ∷ ts) rest e = unroll (length ts) what (t ∷ ts) (Some rest) e ∙ enough (length ts) (length rest) what rest (omega (arith, past_dropped-shrinks what (t ∷ ts) rest e, count-le (t ∷ ts))) (count-le rest)
 
 behind-le : (n : ℕ) (what : Dropped) (ts : List Tok) (found : Option (List Tok)) → past_dropped what ts ≡ found
-    → ((rest : List Tok) → length (past_at_most n what rest) ≤ length rest) → length (past_at_most (suc n) what ts) ≤ length ts
+    → ((rest : List Tok) → count (past_at_most n what rest) ≤ count rest) → count (past_at_most (suc n) what ts) ≤ count ts
 behind-le n what ts None e le = rw (unroll n what ts None e) (omega arith)
 behind-le n what ts (Some rest) e le = rw (unroll n what ts (Some rest) e) (omega (arith, le rest, past_dropped-shrinks what ts rest e))
 
-at_most-le : (n : ℕ) (what : Dropped) (ts : List Tok) → length (past_at_most n what ts) ≤ length ts
+at_most-le : (n : ℕ) (what : Dropped) (ts : List Tok) → count (past_at_most n what ts) ≤ count ts
 unfolding past_at_most
 at_most-le zero what ts = omega arith
 at_most-le (suc n) what ts = behind-le n what ts (past_dropped what ts) refl (λ rest. at_most-le n what rest)
 
-pub past_all-le : (what : Dropped) (ts : List Tok) → length (past_all what ts) ≤ length ts
+pub past_all-le : (what : Dropped) (ts : List Tok) → count (past_all what ts) ≤ count ts
 unfolding past_all
 past_all-le what ts = at_most-le (length ts) what ts
 

@@ -1,4 +1,5 @@
 pub mod Dropping
 pub mod Listing
+pub mod Notes
 pub mod Stopping
 pub mod TokenCount

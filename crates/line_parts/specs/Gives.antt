@@ -1,6 +1,6 @@
 -- Reading a front of a list of tokens: what it says and the tokens after it, or nothing.
-use Rattle.std.specs.Prelude.{◌≡◌, ℕ, Bool, true, false, List, [], ◌∷◌, Option, Some, None, Result, Ok, Err}
-use Rattle.sp_text.specs.Tokens.{Tok, tok}
+use Rattle.std.specs.Prelude.{◌≡◌, ℕ, Bool, true, false, List, [], ◌∷◌, Option, Some, None, Result, Ok, Err, if◌then◌else◌}
+use Rattle.sp_text.specs.Tokens.{Tok, tok, over, note}
 use Rattle.sp_text.specs.declared.tokens.Kind.{Kind}
 use Rattle.line_parts.specs.declared.faults.Stop.{Stop}
 use Rattle.line_parts.specs.declared.faults.Stop.TheVariants as stops
@@ -22,7 +22,18 @@ with_rest rest (Some x) = Some (x, rest)
 -- one token
 unfoldable pub one_at : {A : Type 0} → (Tok → Option A) → List Tok → Found A
 one_at says [] = None
+one_at says (over ∷ ts) = None
 one_at says (t ∷ ts) = with_rest ts (says t)
+
+-- what is left, with the note if a limit was passed
+abbrev pub noted : Bool → List Tok → List Tok
+noted passes ts = if passes then note ts else ts
+
+-- one token that says a width or a number, and whether that passes its limit
+unfoldable pub one_noted_at : {A : Type 0} → (Tok → Option A) → (Tok → Bool) → List Tok → Found A
+one_noted_at says passes [] = None
+one_noted_at says passes (over ∷ ts) = None
+one_noted_at says passes (t ∷ ts) = with_rest (noted (passes t) ts) (says t)
 
 -- Why nothing was returned: the tokens say nothing, or memory ran out.
 abbrev pub Stops : {Y : Type 0} → Stop → Found Y → Type 0
@@ -42,6 +53,12 @@ Takes false rest found = found ≡ None
 abbrev pub is_nil : List Tok → Bool
 is_nil [] = true
 is_nil (t ∷ ts) = false
+
+-- whether a limit was passed on the way, where nothing else is left
+abbrev pub end_of : List Tok → Option Bool
+end_of [] = Some false
+end_of (over ∷ []) = Some true
+end_of _ = None
 
 -- the list begins with this token
 abbrev pub BeginsWith : Kind → List ℕ → List Tok → Type 0

@@ -10,9 +10,8 @@ use Rattle.line_tokens.specs.declared.literals.Literal.{Literal}
 use Rattle.line_tokens.specs.declared.words.Dropped.TheVariants as drops
 use Rattle.line_parts.specs.Gives.{Found, after, one_at}
 use Rattle.line_tokens.specs.Marks.{is_mark, is_word, global_of, stands, begins}
-use Rattle.line_tokens.specs.Numbers.{literal_of}
 use Rattle.line_parts.specs.Drops.{after_bracket, past_all, past}
-use Rattle.line_parts.specs.Parts.{Val, word_at, mark_at, local_at, global_at, value_at, allowed_type_at, is_value_type, is_answer_type, is_managed}
+use Rattle.line_parts.specs.Parts.{Val, word_at, mark_at, local_at, global_at, literal_at, value_at, allowed_type_at, is_value_type, is_answer_type, is_managed}
 use Rattle.line_parts.specs.Lists.{Given, function, comma, list_to, listed_at, is_argument_type, is_task_start, passed_at}
 use Rattle.line_tokens.specs.Families.{is_family_name, is_result_of}
 
@@ -20,7 +19,7 @@ use Rattle.line_tokens.specs.Families.{is_family_name, is_result_of}
 
 -- a type, then a number
 unfoldable pub number_at : List ℕ → List Tok → Found Literal
-number_at of_type ts = after (word_at of_type ts) (λ _ ts. one_at literal_of (past_all drops.Groups ts))
+number_at of_type ts = after (word_at of_type ts) (λ _ ts. literal_at (past_all drops.Groups ts))
 
 -- the number 0
 abbrev pub is_zero : Tok → Bool

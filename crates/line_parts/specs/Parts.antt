@@ -1,14 +1,14 @@
 -- The parts of line forms: types, values, elements, heads.
-use Rattle.std.specs.Prelude.{ℕ, Bool, true, false, ◌&&◌, ◌||◌, List, [], ◌∷◌, Option, Some, None, ◌==◌, drop, option_map, codes, if◌then◌else◌}
+use Rattle.std.specs.Prelude.{ℕ, Bool, true, false, ◌&&◌, ◌||◌, List, [], ◌∷◌, Option, Some, None, ◌==◌, drop, option_map, is_some, codes, if◌then◌else◌}
 use Rattle.std.specs.Str.{bytes_eq}
 use Rattle.sp_text.specs.Tokens.{Tok, tok}
 use Rattle.sp_text.specs.declared.tokens.Kind.TheVariants as kinds
 use Rattle.line_parts.specs.declared.readings.TypeWord.{TypeWord}
 use Rattle.line_parts.specs.declared.readings.TypeWord.TheVariants as types
 use Rattle.line_tokens.specs.declared.literals.Literal.{Literal}
-use Rattle.line_parts.specs.Gives.{Found, after, one_at}
+use Rattle.line_parts.specs.Gives.{Found, after, one_at, noted, one_noted_at, end_of}
 use Rattle.line_tokens.specs.Marks.{is_word, is_mark, named, local_of, global_of, quoted_of, stands, begins}
-use Rattle.line_tokens.specs.Numbers.{width_of, literal_spelled, literal_of}
+use Rattle.line_tokens.specs.Numbers.{width_of, width_passes, literal_spelled, literal_of, literal_passes}
 
 abbrev pub word_at : List ℕ → List Tok → Found (Unit {0})
 word_at text ts = one_at (stands (is_word text)) ts
@@ -21,6 +21,14 @@ local_at ts = one_at local_of ts
 
 abbrev pub global_at : List Tok → Found (List ℕ)
 global_at ts = one_at global_of ts
+
+-- ---- widths and numbers
+
+abbrev pub width_at : List Tok → Found ℕ
+width_at ts = one_noted_at width_of width_passes ts
+
+abbrev pub literal_at : List Tok → Found Literal
+literal_at ts = one_noted_at literal_of literal_passes ts
 
 -- ---- types
 
@@ -42,7 +50,7 @@ abbrev pub other_type_at : Tok → List Tok → Found TypeWord
 other_type_at t ts = if is_word (codes "void") t then Some (types.Void, ts) else if is_word (codes "ptr") t then pointer_at ts else None
 
 abbrev pub type_behind : Tok → List Tok → Option ℕ → Found TypeWord
-type_behind t ts (Some width) = Some (types.Int width, ts)
+type_behind t ts (Some width) = Some (types.Int width, noted (width_passes t) ts)
 type_behind t ts None = other_type_at t ts
 
 -- `void`, `iN`, `ptr` or `ptr addrspace(1)`
@@ -100,7 +108,7 @@ value_of (tok kinds.Word bytes) = word_value bytes
 value_of _ = None
 
 abbrev pub value_at : List Tok → Found Val
-value_at ts = one_at value_of ts
+value_at ts = one_noted_at value_of literal_passes ts
 
 -- a value that a case may name
 abbrev pub is_case_value : Val → Bool
@@ -125,18 +133,17 @@ begins_place _ = false
 
 unfoldable pub place_at : List Tok → Found (Option Literal)
 place_at ts = if begins_place ts then after (mark_at (codes ",") ts) (λ _ ts. after (word_at (codes "i32") ts) (λ _ ts.
-    after (one_at literal_of ts) (λ place ts. Some (Some place, ts)))) else Some (None, ts)
+    after (literal_at ts) (λ place ts. Some (Some place, ts)))) else Some (None, ts)
 
 -- `gc "S"`, where it stands
 unfoldable pub strategy_at : List Tok → Found (Option (List ℕ))
 strategy_at ts = if begins (is_word (codes "gc")) ts then after (word_at (codes "gc") ts) (λ _ ts. after (one_at quoted_of ts) (λ name ts. Some (Some name, ts)))
     else Some (None, ts)
 
--- whether the last token is `}`, where that is known of the token before these
-unfoldable pub ends_with_brace : Bool → List Tok → Bool
-ends_with_brace before [] = before
-ends_with_brace before (t ∷ ts) = ends_with_brace (is_mark (codes "}") t) ts
+-- any tokens, the last of them `}`; `closed` says whether the token before these was one
+unfoldable pub brace_at_end : Bool → List Tok → Found (Unit {0})
+brace_at_end closed (tok kind bytes ∷ ts) = brace_at_end (is_mark (codes "}") (tok kind bytes)) ts
+brace_at_end closed ts = if closed && is_some (end_of ts) then Some (tt, ts) else None
 
--- any tokens, the last of them `}`
 abbrev pub to_brace_at : List Tok → Found (Unit {0})
-to_brace_at ts = if ends_with_brace false ts then Some (tt, []) else None
+to_brace_at ts = brace_at_end false ts

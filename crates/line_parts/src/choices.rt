@@ -5,7 +5,7 @@ ghost use Rattle.std.specs.Option.{option_copied, option_map};
 ghost use Rattle.sp_text.specs.Names.{seen_name};
 ghost use Rattle.sp_text.specs.Tokens.{tok};
 ghost use Rattle.line_parts.specs.Gives.{Gives, one_at};
-ghost use Rattle.line_parts.specs.Parts.{case_value_at, name_if_any, place_at, begins_place, strategy_at, to_brace_at};
+ghost use Rattle.line_parts.specs.Parts.{case_value_at, name_if_any, place_at, begins_place, strategy_at, to_brace_at, brace_at_end};
 ghost use Rattle.line_tokens.specs.Words.{pred_of};
 ghost use Rattle.line_parts.specs.Seen.{seen_value};
 
@@ -100,7 +100,7 @@ impl<'t, 'a> Cursor<'t, 'a> {
     }
 
     /// Passes any tokens, the last of them `}`.
-    #[tactic(auto, unfolding(crate::specs::Parts::ends_with_brace))]
+    #[tactic(auto, unfolding(crate::specs::Parts::brace_at_end))]
     pub fn to_brace(&mut self) -> Result<(), Stop>
         ensures { Gives (λ _. tt) result self.new (to_brace_at self.old) }
     {
@@ -108,7 +108,7 @@ impl<'t, 'a> Cursor<'t, 'a> {
         while let Some(token) = self.token() {
             closed = is_mark(&token, b"}");
         }
-        if closed && self.is_at_end() {
+        if closed && self.end().is_some() {
             Ok(())
         } else {
             Err(Stop::NoReading)

@@ -1,13 +1,13 @@
 //! The parts of line forms: words and marks, names, types, values.
 
-ghost use Rattle.std.specs.Prelude.{◌≡◌, codes};
+ghost use Rattle.std.specs.Prelude.{◌≡◌, codes, IfSome};
 ghost use Rattle.std.specs.Option.{option_map};
 ghost use Rattle.sp_text.specs.Names.{seen_name};
 ghost use Rattle.sp_text.specs.Tokens.{tok};
 ghost use Rattle.line_parts.specs.Gives.{Gives, one_at};
 ghost use Rattle.line_tokens.specs.Marks.{begins, is_word, is_mark, is_quoted, is_hash, is_local, stands, quoted_of};
-ghost use Rattle.line_tokens.specs.Numbers.{width_of, literal_of};
-ghost use Rattle.line_parts.specs.Parts.{word_at, mark_at, local_at, global_at, addrspace_at, pointer_at, spelled_type_at, allowed_type_at, is_value_type, is_answer_type, is_cast_type, is_managed, is_scalar_type, value_of, value_at, case_value_at, word_value, is_one, name_if_any, place_at, begins_place, strategy_at, to_brace_at};
+ghost use Rattle.line_tokens.specs.Numbers.{literal_passes};
+ghost use Rattle.line_parts.specs.Parts.{word_at, mark_at, local_at, global_at, width_at, literal_at, addrspace_at, pointer_at, spelled_type_at, allowed_type_at, is_value_type, is_answer_type, is_cast_type, is_managed, is_scalar_type, value_of, value_at, case_value_at, word_value, is_one, name_if_any, place_at, begins_place, strategy_at, to_brace_at};
 ghost use Rattle.line_tokens.specs.Words.{pred_of};
 ghost use Rattle.line_parts.specs.Seen.{seen_value};
 
@@ -15,7 +15,7 @@ use crate::cursor::Cursor;
 use crate::faults::Stop;
 use crate::readings::{TypeWord, Value};
 use line_tokens::{
-    Literal, global, is_mark, is_text, is_word, literal, literal_in, local, quoted, width,
+    Limited, Literal, global, is_mark, is_text, is_word, literal, literal_in, local, quoted, width,
 };
 use sp_text::{Kind, Name, Token};
 
@@ -142,35 +142,41 @@ impl<'t, 'a> Cursor<'t, 'a> {
     }
 
     /// The width of an `iN`.
-    #[tactic(auto, unfolding(crate::specs::Gives::one_at))]
+    #[tactic(auto, unfolding(crate::specs::Gives::one_noted_at))]
     pub fn width(&mut self) -> Result<u32, Stop>
-        ensures { Gives (λ n. n) result self.new (one_at width_of self.old) }
+        ensures { Gives (λ n. n) result self.new (width_at self.old) }
     {
         let Some(token) = self.token() else {
             return Err(Stop::NoReading);
         };
         match width(&token) {
-            Some(bits) => Ok(bits),
+            Some(width) => {
+                self.note(width.passes);
+                Ok(width.value)
+            }
             None => Err(Stop::NoReading),
         }
     }
 
     /// A number.
-    #[tactic(auto, unfolding(crate::specs::Gives::one_at))]
+    #[tactic(auto, unfolding(crate::specs::Gives::one_noted_at))]
     pub fn number(&mut self) -> Result<Literal, Stop>
-        ensures { Gives (λ n. n) result self.new (one_at literal_of self.old) }
+        ensures { Gives (λ n. n) result self.new (literal_at self.old) }
     {
         let Some(token) = self.token() else {
             return Err(Stop::NoReading);
         };
         match literal(&token) {
-            Some(number) => Ok(number),
+            Some(number) => {
+                self.note(number.passes);
+                Ok(number.value)
+            }
             None => Err(Stop::NoReading),
         }
     }
 
     /// A value.
-    #[tactic(auto, unfolding(crate::specs::Gives::one_at))]
+    #[tactic(auto, unfolding(crate::specs::Gives::one_noted_at))]
     pub fn value(&mut self) -> Result<Value<'a>, Stop>
         ensures { Gives seen_value result self.new (value_at self.old) }
     {
@@ -178,23 +184,42 @@ impl<'t, 'a> Cursor<'t, 'a> {
             return Err(Stop::NoReading);
         };
         match value_in(&token) {
-            Some(value) => Ok(value),
+            Some(value) => {
+                self.note(value.passes);
+                Ok(value.value)
+            }
             None => Err(Stop::NoReading),
         }
     }
 }
 
 // The value that a token says.
-fn value_in<'a>(token: &Token<'a>) -> Option<Value<'a>>
-    ensures { option_map seen_value result ≡ value_of (tok token.now.kind token.now.bytes.now) }
+fn value_in<'a>(token: &Token<'a>) -> Option<Limited<Value<'a>>>
+    ensures value { option_map (λ it. seen_value it.value) result ≡ value_of (tok token.now.kind token.now.bytes.now) }
+    ensures passes { IfSome result (λ it. it.passes ≡ literal_passes (tok token.now.kind token.now.bytes.now)) }
 {
     match token.kind {
         Kind::Local => match local(token) {
-            Some(name) => Some(Value::Local(name)),
+            Some(name) => Some(Limited {
+                value: Value::Local(name),
+                passes: false,
+            }),
             None => None,
         },
-        Kind::Number => Some(Value::Number(literal_in(token.bytes))),
-        Kind::Word => word_value(token.bytes),
+        Kind::Number => {
+            let number = literal_in(token.bytes);
+            Some(Limited {
+                value: Value::Number(number.value),
+                passes: number.passes,
+            })
+        }
+        Kind::Word => match word_value(token.bytes) {
+            Some(value) => Some(Limited {
+                value,
+                passes: false,
+            }),
+            None => None,
+        },
         _ => None,
     }
 }

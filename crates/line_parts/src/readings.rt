@@ -7,7 +7,7 @@ use sp_text::Name;
 pub enum TypeWord {
     #[default]
     Void,
-    /// `iN`. A width above 64 counts as 65.
+    /// `iN`
     Int(u32),
     /// `ptr addrspace(1)`.
     Managed,

@@ -72,7 +72,8 @@ impl<'t, 'a> Cursor<'t, 'a> {
             return Err(Stop::NoReading);
         };
         if let Some(bits) = width(&token) {
-            return Ok(TypeWord::Int(bits));
+            self.note(bits.passes);
+            return Ok(TypeWord::Int(bits.value));
         }
         if is_word(&token, b"void") {
             Ok(TypeWord::Void)

@@ -1,19 +1,14 @@
 //! Widths and literals.
 
-ghost use Rattle.std.specs.Prelude.{◌≡◌, ◌+◌, ◌-◌, ◌*◌, ◌^◌, ◌<◌, min};
-ghost use Rattle.std.specs.Option.{SomeIff};
+ghost use Rattle.std.specs.Prelude.{◌≡◌, ◌+◌, ◌-◌, ◌*◌, ◌^◌, ◌<◌, not, IfSome};
+ghost use Rattle.std.specs.Option.{SomeIff, option_map};
 ghost use Rattle.std.specs.Char.{is_ascii_digit};
 ghost use Rattle.std.specs.List.{list_all};
 ghost use Rattle.sp_text.specs.Tokens.{tok, are_digits, is_numeral};
-ghost use Rattle.line_tokens.specs.Numbers.{decimal, width_of, is_integer_word, literal_of, literal_spelled, negative_literal, positive_literal};
+ghost use Rattle.line_tokens.specs.Numbers.{decimal, is_width, is_literal, width_within, width_of, width_passes, is_integer_word, number_spelled, literal_within, literal_spelled, literal_of, literal_passes};
 
-use crate::literals::Literal;
+use crate::literals::{Limited, Literal};
 use sp_text::{Kind, Token};
-
-const NO_LITERAL: Literal = Literal {
-    negative: true,
-    magnitude: u64::MAX,
-};
 
 // The number that digits spell, where it is below 2^64.
 fn decimal(digits: &[u8]) -> Option<u64>
@@ -67,9 +62,27 @@ pub fn is_integer_word(bytes: &[u8]) -> bool
     }
 }
 
-/// The width of `iN`. A width above 64 counts as 65.
-pub fn width(token: &Token) -> Option<u32>
-    ensures { result ≡ width_of (tok token.now.kind token.now.bytes.now) }
+// The width that the digits of `iN` spell.
+fn width_spelled(digits: &[u8]) -> Limited<u32>
+    ensures value { result.value ≡ width_within (decimal digits.now) }
+    ensures passes { result.passes ≡ not (is_width (decimal digits.now)) }
+{
+    match decimal(digits) {
+        Some(bits) if 1 <= bits && bits <= 64 => Limited {
+            value: bits as u32,
+            passes: false,
+        },
+        _ => Limited {
+            value: 1,
+            passes: true,
+        },
+    }
+}
+
+/// The width of `iN`.
+pub fn width(token: &Token) -> Option<Limited<u32>>
+    ensures value { option_map (λ it. it.value) result ≡ width_of (tok token.now.kind token.now.bytes.now) }
+    ensures passes { IfSome result (λ it. it.passes ≡ width_passes (tok token.now.kind token.now.bytes.now)) }
 {
     match token.kind {
         Kind::Word => width_in(token.bytes),
@@ -78,27 +91,20 @@ pub fn width(token: &Token) -> Option<u32>
 }
 
 /// The width of the word `iN`.
-pub fn width_in(bytes: &[u8]) -> Option<u32>
-    ensures { result ≡ width_of (tok Kind.Word bytes.now) }
+pub fn width_in(bytes: &[u8]) -> Option<Limited<u32>>
+    ensures value { option_map (λ it. it.value) result ≡ width_of (tok Kind.Word bytes.now) }
+    ensures passes { IfSome result (λ it. it.passes ≡ width_passes (tok Kind.Word bytes.now)) }
 {
     match bytes {
-        [b'i', digits @ ..] if is_numeral(digits) => Some(capped(digits)),
+        [b'i', digits @ ..] if is_numeral(digits) => Some(width_spelled(digits)),
         _ => None,
     }
 }
 
-fn capped(digits: &[u8]) -> u32
-    ensures { result ≡ min (decimal digits.now) 65 }
-{
-    match decimal(digits) {
-        Some(number) => number.min(65) as u32,
-        None => 65,
-    }
-}
-
 /// The literal that a number spells.
-pub fn literal(token: &Token) -> Option<Literal>
-    ensures { result ≡ literal_of (tok token.now.kind token.now.bytes.now) }
+pub fn literal(token: &Token) -> Option<Limited<Literal>>
+    ensures value { option_map (λ it. it.value) result ≡ literal_of (tok token.now.kind token.now.bytes.now) }
+    ensures passes { IfSome result (λ it. it.passes ≡ literal_passes (tok token.now.kind token.now.bytes.now)) }
 {
     match token.kind {
         Kind::Number => Some(literal_in(token.bytes)),
@@ -107,41 +113,36 @@ pub fn literal(token: &Token) -> Option<Literal>
 }
 
 /// The literal that an optional `-` and digits spell.
-pub fn literal_in(bytes: &[u8]) -> Literal
-    ensures { result ≡ literal_spelled bytes.now }
+pub fn literal_in(bytes: &[u8]) -> Limited<Literal>
+    ensures value { result.value ≡ literal_spelled bytes.now }
+    ensures passes { result.passes ≡ not (is_literal (number_spelled bytes.now)) }
 {
     match bytes {
-        [] => positive(bytes),
-        [first, digits @ ..] => {
-            if *first == b'-' {
-                negative(digits)
-            } else {
-                positive(bytes)
-            }
-        }
+        [b'-', digits @ ..] => signed(true, digits),
+        _ => signed(false, bytes),
     }
 }
 
-fn negative(digits: &[u8]) -> Literal
-    ensures { result ≡ negative_literal (decimal digits.now) }
+// The literal of this sign that the digits spell.
+fn signed(negative: bool, digits: &[u8]) -> Limited<Literal>
+    ensures value { result.value ≡ literal_within (record { negative = negative; magnitude = decimal digits.now }) }
+    ensures passes { result.passes ≡ not (is_literal (record { negative = negative; magnitude = decimal digits.now })) }
 {
+    let most = if negative { 1 << 63 } else { u64::MAX };
     match decimal(digits) {
-        Some(magnitude) if magnitude <= 1 << 63 => Literal {
-            negative: true,
-            magnitude,
+        Some(magnitude) if magnitude <= most => Limited {
+            value: Literal {
+                negative,
+                magnitude,
+            },
+            passes: false,
         },
-        _ => NO_LITERAL,
-    }
-}
-
-fn positive(digits: &[u8]) -> Literal
-    ensures { result ≡ positive_literal (decimal digits.now) }
-{
-    match decimal(digits) {
-        Some(magnitude) => Literal {
-            negative: false,
-            magnitude,
+        _ => Limited {
+            value: Literal {
+                negative: false,
+                magnitude: 1,
+            },
+            passes: true,
         },
-        None => NO_LITERAL,
     }
 }

@@ -11,7 +11,7 @@ use Rattle.ir_reader.specs.declared.states.Place.{Place}
 use Rattle.ir_reader.specs.declared.states.Place.TheVariants as places
 use Rattle.line_parts.specs.declared.readings.TypeWord.{TypeWord}
 use Rattle.line_parts.specs.Lists.{Named}
-use Rattle.ir_reader.specs.Limits.{type_fits, name_fits, argument_fits}
+use Rattle.ir_reader.specs.Limits.{name_fits}
 use Rattle.ir_lines.specs.Statements.{Statement, Line, define}
 use Rattle.ir_lines.specs.Sections.{is_close, Definition, definition_said, definitions_of, arguments_named, blocks_of}
 use Rattle.ir_lines.specs.Modules.{Known, known_of, block_of, argument_of}
@@ -69,9 +69,7 @@ define-placed : (line : ℕ) (answer : TypeWord) (name : List ℕ) (arguments : 
 define-placed line answer name arguments strategy place next ls is stand fits few =
     let entry = entry-is next (sym (ap opens_function is) ∙ define-opens place answer name arguments strategy) in
     let body = body-of ls places.Entry tt (subst (λ (p : Place). Stand p ls) entry stand) in
-    let f = both (type_fits answer) (name_fits name && nat_le (length arguments) 64 && list_all argument_fits arguments) fits in
-    let g = both (name_fits name && nat_le (length arguments) 64) (list_all argument_fits arguments) f.1 in
-    let h = both (name_fits name) (nat_le (length arguments) 64) g.0 in
+    let h = both (name_fits name) (nat_le (length arguments) 64) fits in
     let shorter = closed_within ls places.Entry tt (subst (λ (p : Place). Stand p ls) entry stand) in
     All-cons IsPlacedBody (record {
       line = line;

@@ -1,21 +1,22 @@
 -- What stands at the slots of a form, as parts that pass what each slot asks.
 use Rattle.std.proofs.Common.{◌≡◌, ◌∙◌, ℕ, zero, suc, refl, sym, ap, subst, Bool, true, false, ◌&&◌, List, [], ◌∷◌, ◌++◌, length, arith}
-use Rattle.std.specs.Prelude.{nat_le, codes, drop, if◌then◌else◌, Option, Some, None}
+use Rattle.std.specs.Prelude.{nat_le, codes, drop, ◌==◌, if◌then◌else◌, ⊤, Option, Some, None}
 use Rattle.std.specs.List.{list_all}
 use Rattle.std.proofs.lemmas.Bool.{and_from, le-leb}
-use Rattle.sp_text.specs.Tokens.{Tok, tok, is_name}
+use Rattle.sp_text.specs.Tokens.{Tok, tok, bad, over, is_name, is_numeral}
 use Rattle.sp_text.specs.declared.tokens.Kind.TheVariants as kinds
 use Rattle.ir_ast.specs.declared.ops.Pred.{Pred}
 use Rattle.line_parts.specs.declared.readings.TypeWord.{TypeWord}
 use Rattle.line_parts.specs.declared.readings.TypeWord.TheVariants as types
-use Rattle.line_parts.specs.Gives.{Found, after, one_at, with_rest}
+use Rattle.line_parts.specs.Gives.{Found, after, one_at, with_rest, noted, one_noted_at}
 use Rattle.line_tokens.specs.declared.words.Dropped.TheVariants as drops
 use Rattle.line_tokens.specs.declared.literals.Literal.{Literal}
 use Rattle.line_tokens.specs.Families.{is_result_of}
 use Rattle.line_parts.specs.Groups.{begins_argument, handed_at, suffix_of, named_result, result_at}
-use Rattle.line_tokens.specs.Marks.{is_mark, local_of, global_of, begins}
+use Rattle.line_tokens.specs.Marks.{is_mark, is_word, local_of, global_of, begins}
+use Rattle.line_tokens.specs.Numbers.{decimal, is_width, width_within, width_of, width_passes}
 use Rattle.line_parts.specs.Drops.{past, past_all}
-use Rattle.line_parts.specs.Parts.{Val, mark_at, name_if_any, global_at, value_at, spelled_type_at, allowed_type_at, case_value_at, is_value_type, is_answer_type, is_scalar_type, is_case_value}
+use Rattle.line_parts.specs.Parts.{Val, mark_at, name_if_any, global_at, width_at, value_at, addrspace_at, pointer_at, type_behind, spelled_type_at, allowed_type_at, case_value_at, is_value_type, is_answer_type, is_scalar_type, is_case_value}
 use Rattle.line_parts.specs.Lists.{Named, Given, given, function, at_most_at, listed_at, list_to, comma, is_argument_type, argument_at, arguments_at, is_task_start, head_at, given_behind, passed_at, all_passed_at, called_at, entry_at, begins_entry}
 use Rattle.line_forms.specs.Slots.{Item, Slot, part, parse, says, says_nothing, blank, m, w, g, dropped, a_managed, a_quoted, a_hash, to_brace, a_local, a_layout_name, a_width, a_type, an_answer, a_cast_type, a_value, a_case, a_pred, a_scalar, a_layout, a_place, some_fields, some_entries, a_declared, a_defined, a_called, a_strategy, a_zero, a_closing, a_family_answer, a_family, a_bracketing, a_token, a_global, some_types, some_handed, some_live, a_result, a_number}
 use Rattle.line_forms.specs.Slots as items
@@ -65,6 +66,77 @@ chosen allows what y s e =
 allowed-type : (allows : TypeWord → Bool) (ts : List Tok) (ty : TypeWord) (rest : List Tok) → allowed_type_at allows ts ≡ Some (ty, rest) → allows ty ≡ true
 unfolding allowed_type_at
 allowed-type allows ts ty rest e = chosen allows (spelled_type_at ts) ty rest e
+
+-- ---- widths of types
+
+-- what is found passes a test
+abbrev Tells : {A : Type 0} → (A → Bool) → Found A → Type 0
+Tells test None = ⊤
+Tells test (Some (x, rest)) = test x ≡ true
+
+if-tells : {A : Type 0} (test : A → Bool) (b : Bool) (x y : Found A) → Tells test x → Tells test y → Tells test (if b then x else y)
+if-tells test true x y h k = h
+if-tells test false x y h k = k
+
+after-tells : {A B : Type 0} (test : B → Bool) (what : Found A) (next : A → List Tok → Found B) → ((x : A) (rest : List Tok) → Tells test (next x rest)) → Tells test (after what next)
+unfolding after
+after-tells test None next each = tt
+after-tells test (Some (x, rest)) next each = each x rest
+
+within-width : (bits : ℕ) (b : Bool) → is_width bits ≡ b → is_width (if b then bits else 1) ≡ true
+within-width bits true is = is
+within-width bits false is = refl
+
+chosen-width : (b : Bool) (bits width : ℕ) → (if b then Some (width_within bits) else None) ≡ Some width → is_width width ≡ true
+chosen-width true bits width e = ap is_width (sym (the-same (width_within bits) width e)) ∙ within-width bits (is_width bits) refl
+chosen-width false bits width e = absurd (let bad : None ≡ Some width = e in cc)
+
+width-is : (t : Tok) (width : ℕ) → width_of t ≡ Some width → is_width width ≡ true
+width-is (tok kinds.Word (i ∷ digits)) width e = chosen-width ((i == 105) && is_numeral digits) (decimal digits) width e
+width-is t width e = absurd (let bad : None ≡ Some width = e in cc)
+
+abbrev has_width : TypeWord → Bool
+has_width (types.Int width) = is_width width
+has_width _ = true
+
+pointer-tells : (ts : List Tok) → Tells has_width (pointer_at ts)
+unfolding pointer_at
+pointer-tells ts = if-tells has_width (begins (is_word (codes "addrspace")) ts) _ _ (after-tells has_width (addrspace_at ts) _ (λ _ rest. refl)) refl
+
+behind-tells : (t : Tok) (ts : List Tok) (width : Option ℕ) → width_of t ≡ width → Tells has_width (type_behind t ts width)
+behind-tells t ts (Some width) is = width-is t width is
+behind-tells t ts None is = if-tells has_width (is_word (codes "void") t) _ _ refl (if-tells has_width (is_word (codes "ptr") t) _ _ (pointer-tells ts) tt)
+
+spelled-tells : (ts : List Tok) → Tells has_width (spelled_type_at ts)
+unfolding spelled_type_at
+spelled-tells [] = tt
+spelled-tells (t ∷ ts) = behind-tells t ts (width_of t) refl
+
+-- what a test allows, with a width if it is an integer's
+abbrev pub read_as : (TypeWord → Bool) → TypeWord → Bool
+read_as allows ty = allows ty && has_width ty
+
+type-read : (allows : TypeWord → Bool) (ts : List Tok) (ty : TypeWord) (rest : List Tok) → allowed_type_at allows ts ≡ Some (ty, rest) → read_as allows ty ≡ true
+unfolding allowed_type_at
+type-read allows ts ty rest e =
+    let h = went (spelled_type_at ts) (λ x rest. if allows x then found x rest else None) (ty, rest) e in
+    let wide : has_width h.x ≡ true = subst (λ (one : Found TypeWord). Tells has_width one) h.is (spelled-tells ts) in
+    chosen-by (read_as allows) (allows h.x) h.x ty h.rest rest (rw wide (and-true (allows h.x))) h.more
+  where
+    and-true : (b : Bool) → (b && true) ≡ b
+    and-true true = refl
+    and-true false = refl
+
+width-read : (ts : List Tok) (width : ℕ) (rest : List Tok) → width_at ts ≡ Some (width, rest) → is_width width ≡ true
+unfolding one_noted_at
+width-read [] width rest e = absurd (let bad : None ≡ found width rest = e in cc)
+width-read (over ∷ ts) width rest e = absurd (let bad : None ≡ found width rest = e in cc)
+width-read (bad ∷ ts) width rest e = absurd (let none : None ≡ found width rest = e in cc)
+width-read (tok kind bytes ∷ ts) width rest e = by (width_of (tok kind bytes)) refl e
+  where
+    by : (said : Option ℕ) → width_of (tok kind bytes) ≡ said → with_rest (noted (width_passes (tok kind bytes)) ts) said ≡ Some (width, rest) → is_width width ≡ true
+    by None is e = absurd (let bad : None ≡ found width rest = e in cc)
+    by (Some one) is e = tells is_width one width _ rest e (width-is (tok kind bytes) one is)
 
 case-value : (ts : List Tok) (value : Val) (rest : List Tok) → case_value_at ts ≡ Some (value, rest) → is_case_value value ≡ true
 unfolding case_value_at
@@ -167,7 +239,7 @@ list-all test element closing one ts xs rest e = list-by test element one (begin
 -- ---- heads and calls
 
 abbrev pub is_argument : Bool → Named → Bool
-is_argument plain one = is_argument_type plain one.ty && is_named one.name
+is_argument plain one = read_as (is_argument_type plain) one.ty && is_named one.name
 
 argument-is : (plain : Bool) (ts : List Tok) (one : Named) (rest : List Tok) → argument_at plain ts ≡ Some (one, rest) → is_argument plain one ≡ true
 unfolding argument_at
@@ -176,7 +248,7 @@ argument-is plain ts one rest e =
     let named = name_if_any (past_all drops.Groups ts) in Some (record { ty = ty; name = named.0 }, named.1)) (one, rest) e in
     let named = name_if_any (past_all drops.Groups h.rest) in
     tells (is_argument plain) (record { ty = h.x; name = named.0 }) one named.1 rest h.more
-    (and_from (is_argument_type plain h.x) (is_named named.0) (allowed-type (is_argument_type plain) ts h.x h.rest h.is) (if_any-named (past_all drops.Groups h.rest)))
+    (and_from (read_as (is_argument_type plain) h.x) (is_named named.0) (type-read (is_argument_type plain) ts h.x h.rest h.is) (if_any-named (past_all drops.Groups h.rest)))
 
 abbrev takes : List ℕ × List Named → Bool
 takes head = is_name head.0 && list_all (is_argument false) head.1
@@ -199,10 +271,10 @@ head-is ts head rest e =
 
 -- what is passed has a type of values
 abbrev pub passes : Given → Bool
-passes (given ty value) = is_value_type ty
+passes (given ty value) = read_as is_value_type ty
 passes (function name) = true
 
-given-by : (plain : Bool) (ty : TypeWord) (ts : List Tok) (one : Given) (rest : List Tok) → is_argument_type plain ty ≡ true
+given-by : (plain : Bool) (ty : TypeWord) (ts : List Tok) (one : Given) (rest : List Tok) → read_as (is_argument_type plain) ty ≡ true
     → given_behind ty ts ≡ Some (one, rest) → passes one ≡ true
 given-by plain types.Plain ts one rest c e =
     let h = went (global_at ts) (λ name ts. Some (function name, ts)) (one, rest) e in
@@ -221,7 +293,7 @@ passed-type : (plain : Bool) (ts : List Tok) (one : Given) (rest : List Tok) →
 unfolding passed_at
 passed-type plain ts one rest e =
     let h = went (allowed_type_at (is_argument_type plain) ts) (λ ty ts. given_behind ty (past_all drops.Groups ts)) (one, rest) e in
-    given-by plain h.x (past_all drops.Groups h.rest) one rest (allowed-type (is_argument_type plain) ts h.x h.rest h.is) h.more
+    given-by plain h.x (past_all drops.Groups h.rest) one rest (type-read (is_argument_type plain) ts h.x h.rest h.is) h.more
 
 abbrev all_pass : List ℕ × List Given → Bool
 all_pass call = list_all passes call.1
@@ -256,12 +328,12 @@ handed-types : (ts : List Tok) (xs : List Given) (rest : List Tok) → handed_at
 unfolding handed_at
 handed-types ts xs rest e = handed-by (begins_argument ts) ts xs rest e
 
-result-type : (ts : List Tok) (ty : TypeWord) (rest : List Tok) → result_at ts ≡ Some (ty, rest) → is_value_type ty ≡ true
+result-type : (ts : List Tok) (ty : TypeWord) (rest : List Tok) → result_at ts ≡ Some (ty, rest) → read_as is_value_type ty ≡ true
 unfolding result_at
 result-type ts ty rest e =
     let a = went (allowed_type_at is_value_type ts) (λ ty rest. after (global_at rest) (λ name end. named_result ty (suffix_of ty ts) name end)) (ty, rest) e in
     let b = went (global_at a.rest) (λ name end. named_result a.x (suffix_of a.x ts) name end) (ty, rest) a.more in
-    tells-if is_value_type (is_result_of (suffix_of a.x ts) b.x) a.x ty b.rest rest b.more (allowed-type is_value_type ts a.x a.rest a.is)
+    tells-if (read_as is_value_type) (is_result_of (suffix_of a.x ts) b.x) a.x ty b.rest rest b.more (type-read is_value_type ts a.x a.rest a.is)
 
 -- ---- what stands at slots
 
@@ -277,9 +349,9 @@ abbrev At : Slot → Type 0 → Type 0
 At a_family_answer rest = Option TypeWord × rest
 At a_local rest = Passing is_name × rest
 At a_layout_name rest = Passing is_name × rest
-At a_width rest = ℕ × rest
-At a_type rest = Passing is_value_type × rest
-At an_answer rest = Passing is_answer_type × rest
+At a_width rest = Passing is_width × rest
+At a_type rest = Passing (read_as is_value_type) × rest
+At an_answer rest = Passing (read_as is_answer_type) × rest
 At a_cast_type rest = TypeWord × rest
 At a_value rest = Val × rest
 At a_case rest = Passing is_case_value × rest
@@ -298,7 +370,7 @@ At a_global rest = List ℕ × rest
 At some_types rest = List TypeWord × rest
 At some_handed rest = Passing (list_all passes) × rest
 At some_live rest = List Val × rest
-At a_result rest = Passing is_value_type × rest
+At a_result rest = Passing (read_as is_value_type) × rest
 At (a_number of_type) rest = Literal × rest
 At _ rest = rest
 
@@ -311,7 +383,7 @@ abbrev saying : (s : Slot) (f : Type 0) → (f → List Item) → At s f → Lis
 saying a_family_answer f rest a = items.family_answer a.0 ∷ rest a.1
 saying a_local f rest a = items.name a.0.x ∷ rest a.1
 saying a_layout_name f rest a = items.layout_name a.0.x ∷ rest a.1
-saying a_width f rest a = items.width a.0 ∷ rest a.1
+saying a_width f rest a = items.width a.0.x ∷ rest a.1
 saying a_type f rest a = items.ty a.0.x ∷ rest a.1
 saying an_answer f rest a = items.ty a.0.x ∷ rest a.1
 saying a_cast_type f rest a = items.ty a.0 ∷ rest a.1
@@ -388,9 +460,9 @@ unfolding part
 part_told a_family_answer f ts here more behind e a is = told (items_of f) a here more behind is items.family_answer _ e
 part_told a_local f ts here more behind e a is = tested (items_of f) a here more behind is is_name items.name _ (one-name local_of local-named ts) e
 part_told a_layout_name f ts here more behind e a is = tested (items_of f) a here more behind is is_name items.layout_name _ (one-name local_of local-named ts) e
-part_told a_width f ts here more behind e a is = told (items_of f) a here more behind is items.width _ e
-part_told a_type f ts here more behind e a is = tested (items_of f) a here more behind is is_value_type items.ty _ (allowed-type is_value_type ts) e
-part_told an_answer f ts here more behind e a is = tested (items_of f) a here more behind is is_answer_type items.ty _ (allowed-type is_answer_type ts) e
+part_told a_width f ts here more behind e a is = tested (items_of f) a here more behind is is_width items.width _ (width-read ts) e
+part_told a_type f ts here more behind e a is = tested (items_of f) a here more behind is (read_as is_value_type) items.ty _ (type-read is_value_type ts) e
+part_told an_answer f ts here more behind e a is = tested (items_of f) a here more behind is (read_as is_answer_type) items.ty _ (type-read is_answer_type ts) e
 part_told a_cast_type f ts here more behind e a is = told (items_of f) a here more behind is items.ty _ e
 part_told a_value f ts here more behind e a is = told (items_of f) a here more behind is items.value _ e
 part_told a_case f ts here more behind e a is = tested (items_of f) a here more behind is is_case_value items.value _ (case-value ts) e
@@ -412,7 +484,7 @@ part_told a_global f ts here more behind e a is = told (items_of f) a here more 
 part_told some_types f ts here more behind e a is = told (items_of f) a here more behind is items.types _ e
 part_told some_handed f ts here more behind e a is = tested (items_of f) a here more behind is (list_all passes) items.handed _ (handed-types ts) e
 part_told some_live f ts here more behind e a is = told (items_of f) a here more behind is items.live _ e
-part_told a_result f ts here more behind e a is = tested (items_of f) a here more behind is is_value_type items.ty _ (result-type ts) e
+part_told a_result f ts here more behind e a is = tested (items_of f) a here more behind is (read_as is_value_type) items.ty _ (result-type ts) e
 part_told (a_number of_type) f ts here more behind e a is = told (items_of f) a here more behind is items.literal _ e
 part_told blank f ts here more behind e a is = quiet (items_of f) a here more behind is (sym (first-is [] here ts behind e))
 part_told (m text) f ts here more behind e a is = passed_over (items_of f) a here more behind is _ e

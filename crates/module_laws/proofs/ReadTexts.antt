@@ -56,12 +56,10 @@ and-true false = refl
 
 form-limits : (form : Form) → is_dropped_form form ≡ false → (a : Parts (slots form)) → list_all item_fits (items_of (slots form) a) ≡ statement_fits (of_form form (slice_get (items_of (slots form) a)))
 form-limits (forms.Dropped which) kept a = absurd (let bad : true ≡ false = kept in cc)
-form-limits forms.Close kept a = refl
-form-limits forms.Jump kept a = refl
-form-limits forms.SwitchEnd kept a = refl
-form-limits forms.ReturnVoid kept a = refl
-form-limits forms.Unreachable kept a = refl
-form-limits form kept a = simp and-true
+form-limits forms.Layout kept a = simp and-true
+form-limits forms.Define kept a = simp and-true
+form-limits forms.Statepoint kept a = simp and-true
+form-limits form kept a = refl
 
 same-limits : (what : Said) → IsKept what → IsSpelled what → said_fits what ≡ statement_fits (stated what)
 same-limits (label name) kept spelled = refl

@@ -9,6 +9,7 @@ use Rattle.sp_text.specs.Labels.{is_label, label_in, is_colon}
 use Rattle.sp_text.specs.Tokens.{tokens, is_name, says_nothing}
 use Rattle.ir_cfg.specs.Limits.{IsName}
 use Rattle.ir_ast.specs.Widths.{IsWidth}
+use Rattle.line_tokens.specs.Numbers.{is_width}
 use Rattle.line_parts.specs.declared.readings.TypeWord.{TypeWord}
 use Rattle.line_parts.specs.declared.readings.TypeWord.TheVariants.{Void, Int, Managed, Plain}
 use Rattle.line_parts.specs.Parts.{is_value_type, is_answer_type}
@@ -19,30 +20,30 @@ use Rattle.line_forms.specs.Forms.{slots, is_dropped_form}
 use Rattle.line_forms.specs.Slots.{Item}
 use Rattle.line_forms.specs.Seen.{Said, label, line}
 use Rattle.line_forms.proofs.FamilyLines.{fit_parts}
-use Rattle.ir_reader.specs.Limits.{width_fits, type_fits, value_fits, argument_fits, given_fits, name_fits, literal_fits, live_fits, item_fits, said_fits}
+use Rattle.ir_reader.specs.Limits.{name_fits, item_fits, said_fits}
 use Rattle.ir_lines.specs.Statements.{of_form, stated}
 use Rattle.ir_lines.specs.ReadLines.{IsValueType, IsAnswerType, IsNameIfAny, IsReadArgument, IsReadPassed, SaysRead}
 use Rattle.module_laws.proofs.Runs.{IsSpelled, IsKept, both}
-use Rattle.module_laws.proofs.Formed.{Parts, items_of, is_named, is_argument, parse_told, passes}
+use Rattle.module_laws.proofs.Formed.{Parts, items_of, is_named, is_argument, parse_told, passes, read_as}
 
-width_is : (width : ℕ) → width_fits width ≡ true → IsWidth width
+width_is : (width : ℕ) → is_width width ≡ true → IsWidth width
 width_is width e = let b = both (nat_le 1 width) (nat_le width 64) e in (leb-true 1 width b.0, leb-true width 64 b.1)
 
-value_type : (ty : TypeWord) → is_value_type ty ≡ true → type_fits ty ≡ true → IsValueType ty
-value_type (Int width) e f = width_is width f
-value_type Managed e f = tt
-value_type Void e f = absurd (let bad : false ≡ true = e in cc)
-value_type Plain e f = absurd (let bad : false ≡ true = e in cc)
+value_type : (ty : TypeWord) → read_as is_value_type ty ≡ true → IsValueType ty
+value_type (Int width) e = width_is width e
+value_type Managed e = tt
+value_type Void e = absurd (let bad : false ≡ true = e in cc)
+value_type Plain e = absurd (let bad : false ≡ true = e in cc)
 
-answer_type : (ty : TypeWord) → is_answer_type ty ≡ true → type_fits ty ≡ true → IsAnswerType ty
-answer_type (Int width) e f = width_is width f
-answer_type Managed e f = tt
-answer_type Void e f = tt
-answer_type Plain e f = absurd (let bad : false ≡ true = e in cc)
+answer_type : (ty : TypeWord) → read_as is_answer_type ty ≡ true → IsAnswerType ty
+answer_type (Int width) e = width_is width e
+answer_type Managed e = tt
+answer_type Void e = tt
+answer_type Plain e = absurd (let bad : false ≡ true = e in cc)
 
-argument_type : (ty : TypeWord) → is_argument_type false ty ≡ true → is_value_type ty ≡ true
-argument_type (Int width) e = refl
-argument_type Managed e = refl
+argument_type : (ty : TypeWord) → read_as (is_argument_type false) ty ≡ true → IsValueType ty
+argument_type (Int width) e = width_is width e
+argument_type Managed e = tt
 argument_type Void e = absurd (let bad : false ≡ true = e in cc)
 argument_type Plain e = absurd (let bad : false ≡ true = e in cc)
 
@@ -50,95 +51,69 @@ name_read : (name : Option (List ℕ)) → is_named name ≡ true → IsNameIfAn
 name_read None e = tt
 name_read (Some name) e = e
 
-arguments_read : (arguments : List Named) → list_all (is_argument false) arguments ≡ true → list_all argument_fits arguments ≡ true
-    → AllByRecursion IsReadArgument arguments
-arguments_read [] e f = tt
-arguments_read (one ∷ more) e f =
+arguments_read : (arguments : List Named) → list_all (is_argument false) arguments ≡ true → AllByRecursion IsReadArgument arguments
+arguments_read [] e = tt
+arguments_read (one ∷ more) e =
     let a = both (is_argument false one) (list_all (is_argument false) more) e in
-    let b = both (argument_fits one) (list_all argument_fits more) f in
-    let c = both (is_argument_type false one.ty) (is_named one.name) a.0 in
-    ((value_type one.ty (argument_type one.ty c.0) b.0, name_read one.name c.1), arguments_read more a.1 b.1)
+    let b = both (read_as (is_argument_type false) one.ty) (is_named one.name) a.0 in
+    ((argument_type one.ty b.0, name_read one.name b.1), arguments_read more a.1)
 
-given_read : (one : Given) → passes one ≡ true → given_fits one ≡ true → IsReadPassed one
-given_read (given ty v) e f = value_type ty e (both (type_fits ty) (value_fits v) f).0
-given_read (function name) e f = tt
+given_read : (one : Given) → passes one ≡ true → IsReadPassed one
+given_read (given ty v) e = value_type ty e
+given_read (function name) e = tt
 
-passed_read : (passed : List Given) → list_all passes passed ≡ true → list_all given_fits passed ≡ true → AllByRecursion IsReadPassed passed
-passed_read [] e f = tt
-passed_read (one ∷ more) e f =
-    let a = both (passes one) (list_all passes more) e in
-    let b = both (given_fits one) (list_all given_fits more) f in
-    (given_read one a.0 b.0, passed_read more a.1 b.1)
+passed_read : (passed : List Given) → list_all passes passed ≡ true → AllByRecursion IsReadPassed passed
+passed_read [] e = tt
+passed_read (one ∷ more) e =
+    let a = both (passes one) (list_all passes more) e in (given_read one a.0, passed_read more a.1)
 
 -- what stands at the slots of a form, within the limits
 says_read : (form : Form) → is_dropped_form form ≡ false → (a : Parts (slots form)) → list_all item_fits (items_of (slots form) a) ≡ true → SaysRead (of_form form (slice_get (items_of (slots form) a)))
 says_read (forms.Dropped which) kept a f = absurd (let bad : true ≡ false = kept in cc)
 says_read forms.Layout kept a f =
     let b = both (name_fits a.0.x) _ f in
-    let c = both (nat_le (length a.1.0) 64 && list_all type_fits a.1.0) _ b.1 in
-    (a.0.is, leb-true (length a.0.x) 4096 b.0, leb-true (length a.1.0) 64 (both (nat_le (length a.1.0) 64) (list_all type_fits a.1.0) c.0).0)
+    let c = both (nat_le (length a.1.0) 64) _ b.1 in
+    (a.0.is, leb-true (length a.0.x) 4096 b.0, leb-true (length a.1.0) 64 c.0)
 says_read forms.Define kept a f =
     let n = a.1.0.x.0 in
     let arguments = a.1.0.x.1 in
-    let b = both (type_fits a.0.x) _ f in
-    let c = both (name_fits n && nat_le (length arguments) 64 && list_all argument_fits arguments) _ b.1 in
-    let d = both (name_fits n && nat_le (length arguments) 64) (list_all argument_fits arguments) c.0 in
-    let g = both (name_fits n) (nat_le (length arguments) 64) d.0 in
-    let h = both (is_name n) (list_all (is_argument false) arguments) a.1.0.is in
+    let b = both (name_fits n && nat_le (length arguments) 64) _ f in
+    let c = both (name_fits n) (nat_le (length arguments) 64) b.0 in
+    let d = both (is_name n) (list_all (is_argument false) arguments) a.1.0.is in
     record {
-      answered = answer_type a.0.x a.0.is b.0;
-      named = h.0;
-      short = leb-true (length n) 4096 g.0;
-      few = leb-true (length arguments) 64 g.1;
-      each = All-from_recursion IsReadArgument arguments (arguments_read arguments h.1 d.1);
+      answered = answer_type a.0.x a.0.is;
+      named = d.0;
+      short = leb-true (length n) 4096 c.0;
+      few = leb-true (length arguments) 64 c.1;
+      each = All-from_recursion IsReadArgument arguments (arguments_read arguments d.1);
     }
-says_read (forms.Binary op) kept a f = (a.0.is, width_is a.1.0 (both (width_fits a.1.0) _ f).0)
-says_read forms.Compare kept a f = (a.0.is, value_type a.1.1.0.x a.1.1.0.is (both (type_fits a.1.1.0.x) _ f).0)
-says_read (forms.Convert op) kept a f =
-    let b = both (width_fits a.1.0) _ f in
-    let c = both (value_fits a.1.1.0) _ b.1 in
-    (a.0.is, width_is a.1.0 b.0, width_is a.1.1.1.0 (both (width_fits a.1.1.1.0) true c.1).0)
-says_read forms.Select kept a f =
-    let b = both (value_fits a.1.0) _ f in
-    (a.0.is, value_type a.1.1.0.x a.1.1.0.is (both (type_fits a.1.1.0.x) _ b.1).0)
-says_read forms.Phi kept a f =
-    (a.0.is, value_type a.1.0.x a.1.0.is (both (type_fits a.1.0.x) _ f).0, leb-true 1 (length a.1.1.0.x) a.1.1.0.is)
-says_read forms.ScalarElement kept a f =
-    let b = both (value_fits a.1.1.0) _ f in
-    (a.0.is, width_is a.1.1.1.0 (both (width_fits a.1.1.1.0) _ b.1).0, a.1.0.is)
-says_read forms.LayoutElement kept a f =
-    let b = both (value_fits a.1.1.0) _ f in
-    (a.0.is, width_is a.1.1.1.0 (both (width_fits a.1.1.1.0) _ b.1).0)
-says_read forms.Load kept a f = (a.0.is, value_type a.1.0.x a.1.0.is (both (type_fits a.1.0.x) _ f).0)
-says_read forms.Store kept a f = value_type a.0.x a.0.is (both (type_fits a.0.x) _ f).0
+says_read (forms.Binary op) kept a f = (a.0.is, width_is a.1.0.x a.1.0.is)
+says_read forms.Compare kept a f = (a.0.is, value_type a.1.1.0.x a.1.1.0.is)
+says_read (forms.Convert op) kept a f = (a.0.is, width_is a.1.0.x a.1.0.is, width_is a.1.1.1.0.x a.1.1.1.0.is)
+says_read forms.Select kept a f = (a.0.is, value_type a.1.1.0.x a.1.1.0.is)
+says_read forms.Phi kept a f = (a.0.is, value_type a.1.0.x a.1.0.is, leb-true 1 (length a.1.1.0.x) a.1.1.0.is)
+says_read forms.ScalarElement kept a f = (a.0.is, width_is a.1.1.1.0.x a.1.1.1.0.is, a.1.0.is)
+says_read forms.LayoutElement kept a f = (a.0.is, width_is a.1.1.1.0.x a.1.1.1.0.is)
+says_read forms.Load kept a f = (a.0.is, value_type a.1.0.x a.1.0.is)
+says_read forms.Store kept a f = value_type a.0.x a.0.is
 says_read forms.ValueCall kept a f =
-    let passed = a.1.1.0.x.1 in
-    let b = both (type_fits a.1.0.x) _ f in
-    let c = both (list_all given_fits passed) true b.1 in
-    ((a.0.is, value_type a.1.0.x a.1.0.is b.0), All-from_recursion IsReadPassed passed (passed_read passed a.1.1.0.is c.0))
-says_read forms.VoidCall kept a f =
-    let passed = a.0.x.1 in
-    (refl, All-from_recursion IsReadPassed passed (passed_read passed a.0.is (both (list_all given_fits passed) true f).0))
-says_read forms.Switch kept a f = width_is a.0 (both (width_fits a.0) _ f).0
+    let passed = a.1.1.0 in
+    ((a.0.is, value_type a.1.0.x a.1.0.is), All-from_recursion IsReadPassed passed.x.1 (passed_read passed.x.1 passed.is))
+says_read forms.VoidCall kept a f = (refl, All-from_recursion IsReadPassed a.0.x.1 (passed_read a.0.x.1 a.0.is))
+says_read forms.Switch kept a f = width_is a.0.x a.0.is
 says_read forms.Case kept a f = a.1.0.is
-says_read forms.Return kept a f = value_type a.0.x a.0.is (both (type_fits a.0.x) _ f).0
+says_read forms.Return kept a f = value_type a.0.x a.0.is
 says_read forms.Statepoint kept a f =
     let answer = a.1.1.0 in
     let passed = a.1.1.1.1.1.1.0 in
     let live = a.1.1.1.1.1.1.1.0 in
-    let b = both (literal_fits a.1.0) _ f in
-    let c = both (type_fits answer.x) _ b.1 in
-    let d = both (list_all type_fits a.1.1.1.0) _ c.1 in
-    let g = both (literal_fits a.1.1.1.1.1.0) _ d.1 in
-    let h = both (list_all given_fits passed.x) _ g.1 in
-    let i = both (live_fits live) true h.1 in
     record {
       named = a.0.is;
-      answered = answer_type answer.x answer.is c.0;
-      passed = All-from_recursion IsReadPassed passed.x (passed_read passed.x passed.is h.0);
-      few = leb-true (length live) 16384 (both (nat_le (length live) 16384) (list_all value_fits live) i.0).0;
+      answered = answer_type answer.x answer.is;
+      passed = All-from_recursion IsReadPassed passed.x (passed_read passed.x passed.is);
+      few = leb-true (length live) 16384 (both (nat_le (length live) 16384) true f).0;
     }
-says_read forms.GcResult kept a f = (a.0.is, value_type a.1.0.x a.1.0.is (both (type_fits a.1.0.x) _ f).0)
+says_read forms.GcResult kept a f = (a.0.is, value_type a.1.0.x a.1.0.is)
 says_read forms.GcRelocate kept a f = a.0.is
 says_read form kept a f = tt
 

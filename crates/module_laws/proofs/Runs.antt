@@ -1,7 +1,7 @@
 -- The readings of a text one behind the other: what a line comes to in its place says of the line.
 use Rattle.std.proofs.Common.{◌≡◌, ℕ, ◌+◌, ◌≤◌, suc, refl, ap, sym, Bool, true, false, ◌&&◌, List, [], ◌∷◌, length, Ok, Err, Result, Option, Some, None, arith}
 use Rattle.std.specs.Prelude.{nat_le, if◌then◌else◌, ⊤}
-use Rattle.sp_text.specs.Tokens.{tokens}
+use Rattle.sp_text.specs.Tokens.{over, tokens}
 use Rattle.sp_text.specs.Lines.{NumberedLine}
 use Rattle.sp_text.specs.Labels.{label_of, is_metadata}
 use Rattle.ir_ast.specs.declared.modules.Form.{Form as TextForm}
@@ -16,7 +16,7 @@ use Rattle.line_parts.specs.Gives.{Found, after, is_nil}
 use Rattle.line_forms.specs.Forms.{fit, form_in, stands_in, is_dropped_form}
 use Rattle.line_forms.specs.Slots.{Item}
 use Rattle.ir_reader.specs.Places.{behind, behind_label}
-use Rattle.ir_reader.specs.Limits.{said_fits, said_counts_as, counted, counted_in, counts_fit}
+use Rattle.ir_reader.specs.Limits.{said_fits, line_fits, said_counts_as, counted, counted_in, counts_fit}
 use Rattle.line_forms.proofs.FamilyLines.{fit_parts, stands_where_read}
 use Rattle.line_forms.specs.Seen.{Said, label, line, of_form, line_at, ended}
 use Rattle.ir_reader.specs.Text.{Outcome, no_reading, over_limit, nothing, said, is_top, next_state, within, dropped_within, said_by, formed, by_form, tokens_outcome, label_outcome, labelled, outcome, Fault, syntax_fault, limit_fault, Numbered, with_first, readings_by, readings}
@@ -59,13 +59,14 @@ pub both : (x y : Bool) → (x && y) ≡ true → (x ≡ true) × (y ≡ true)
 both true y e = (refl, e)
 both false y e = absurd (let bad : false ≡ true = e in cc)
 
-within-step : (s : State) (form : Form) (place : Place) (items : List Item) (bytes : List ℕ) (b : Bool) (what : Said) (next : State)
-    → is_dropped_form form ≡ false → form_in s.form (tokens bytes) ≡ Some form → fit form (tokens bytes) ≡ Some (items, []) → behind s.place form ≡ Some place
-    → (said_fits (of_form form items) && counts_fit (next_state s place (of_form form items)).counts) ≡ b
+within-step : (s : State) (form : Form) (place : Place) (items : List Item) (bytes : List ℕ) (passed b : Bool) (what : Said) (next : State)
+    → is_dropped_form form ≡ false → form_in s.form (tokens bytes) ≡ Some form → (passed ≡ false → fit form (tokens bytes) ≡ Some (items, [])) → behind s.place form ≡ Some place
+    → (line_fits (of_form form items) passed && counts_fit (next_state s place (of_form form items)).counts) ≡ b
     → (if b then said (of_form form items) (next_state s place (of_form form items)) else over_limit) ≡ said what next
     → IsStep s what next
-within-step s form place items bytes false what next kept f p e fits o = absurd (let bad : over_limit ≡ said what next = o in cc)
-within-step s form place items bytes true what next kept f p e fits o =
+within-step s form place items bytes passed false what next kept f p e fits o = absurd (let bad : over_limit ≡ said what next = o in cc)
+within-step s form place items bytes true true what next kept f p e fits o = absurd (let bad : false ≡ true = fits in cc)
+within-step s form place items bytes false true what next kept f p e fits o =
     let is : said (of_form form items) (next_state s place (of_form form items)) ≡ said what next = o in
     let w : of_form form items ≡ what = cc in
     let n : next_state s place (of_form form items) ≡ next = cc in
@@ -76,22 +77,22 @@ within-step s form place items bytes true what next kept f p e fits o =
       fits = h.0;
       counts = refl;
       few = λ _. h.1;
-      spelled = (bytes, p);
+      spelled = (bytes, p refl);
       kept = kept;
-      own = stands_where_read s.form form items (tokens bytes) [] f (fit_parts form (tokens bytes) items [] p).0;
+      own = stands_where_read s.form form items (tokens bytes) [] f (fit_parts form (tokens bytes) items [] (p refl)).0;
     })
 
-dropped-step : (s : State) (form : Form) (place : Place) (items : List Item) (bytes : List ℕ) (b : Bool) (what : Said) (next : State)
-    → is_dropped_form form ≡ b → form_in s.form (tokens bytes) ≡ Some form → fit form (tokens bytes) ≡ Some (items, []) → behind s.place form ≡ Some place
-    → (if b then dropped_within (of_form form items) else within s place (of_form form items)) ≡ said what next
+dropped-step : (s : State) (form : Form) (place : Place) (items : List Item) (bytes : List ℕ) (passed b : Bool) (what : Said) (next : State)
+    → is_dropped_form form ≡ b → form_in s.form (tokens bytes) ≡ Some form → (passed ≡ false → fit form (tokens bytes) ≡ Some (items, [])) → behind s.place form ≡ Some place
+    → (if b then dropped_within (of_form form items) passed else within s place (of_form form items) passed) ≡ said what next
     → IsStep s what next
-dropped-step s form place items bytes true what next drops f p e o = absurd (by (said_fits (of_form form items)) o)
+dropped-step s form place items bytes passed true what next drops f p e o = absurd (by (line_fits (of_form form items) passed) o)
   where
     by : (fits : Bool) → (if fits then nothing else over_limit) ≡ said what next → ⊥
     by true bad = cc
     by false bad = cc
-dropped-step s form place items bytes false what next kept f p e o =
-    within-step s form place items bytes (said_fits (of_form form items) && counts_fit (next_state s place (of_form form items)).counts) what next kept f p e refl o
+dropped-step s form place items bytes passed false what next kept f p e o =
+    within-step s form place items bytes passed (line_fits (of_form form items) passed && counts_fit (next_state s place (of_form form items)).counts) what next kept f p e refl o
 
 -- what the tokens of a form come to
 found-step : (s : State) (form : Form) (place : Place) (bytes : List ℕ) (found : Found (List Item)) (what : Said) (next : State)
@@ -100,9 +101,11 @@ found-step : (s : State) (form : Form) (place : Place) (bytes : List ℕ) (found
     → IsStep s what next
 unfolding after
 found-step s form place bytes None what next f p e o = absurd (let bad : no_reading ≡ said what next = o in cc)
-found-step s form place bytes (Some (items, t ∷ rest)) what next f p e o = absurd (let bad : no_reading ≡ said what next = o in cc)
 found-step s form place bytes (Some (items, [])) what next f p e o =
-    dropped-step s form place items bytes (is_dropped_form form) what next refl f p e o
+    dropped-step s form place items bytes false (is_dropped_form form) what next refl f (λ _. p) e o
+found-step s form place bytes (Some (items, over ∷ [])) what next f p e o =
+    dropped-step s form place items bytes true (is_dropped_form form) what next refl f (λ none. absurd (let wrong : true ≡ false = none in cc)) e o
+found-step s form place bytes (Some (items, rest)) what next f p e o = absurd (let bad : no_reading ≡ said what next = o in cc)
 
 formed-step : (s : State) (form : Form) (bytes : List ℕ) (place : Option Place) (what : Said) (next : State)
     → form_in s.form (tokens bytes) ≡ Some form → behind s.place form ≡ place → formed s form (tokens bytes) place ≡ said what next → IsStep s what next

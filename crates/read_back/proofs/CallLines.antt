@@ -27,7 +27,6 @@ use Rattle.ir_printer.specs.Calls.{callee_name}
 use Rattle.ir_printer.specs.Lines.{result_front, operator_text, phi_entry_text}
 use Rattle.line_forms.specs.declared.forms.Form.TheVariants as forms
 use Rattle.line_tokens.specs.Families.{statepoint_name, relocate_name, result_suffix, result_front as family_result_front, is_family_name}
-use Rattle.ir_reader.specs.Limits.{given_fits, entry_value_fits}
 use Rattle.line_parts.specs.Lists.{Given, given, comma, passed_at, is_task_start, entry_at, begins_entry}
 use Rattle.line_tokens.specs.Marks.{is_mark, begins}
 use Rattle.line_forms.specs.Slots as parts
@@ -37,7 +36,7 @@ use Rattle.read_back.proofs.Steps.{plain_bytes, numeral_digits}
 use Rattle.read_back.proofs.FormsIn.{gc_new_own, value_call_form, void_call_form}
 use Rattle.read_back.proofs.Listed.{SpellsElement}
 use Rattle.read_back.proofs.ListForms.{EndsAtMark, Anything, passed_element, passed_opens, function_element, function_opens, value_call_line, void_call_line, entry_element, phi_line}
-use Rattle.read_back.proofs.Operands.{HaveNames, IsNarrow, block-named, function-named, function-own, layout-named, type_spelled, type_allowed, type_fits_in, value_spelled, value_in_limit}
+use Rattle.read_back.proofs.Operands.{HaveNames, IsNarrow, block-named, function-named, function-own, layout-named, type_spelled, type_allowed, value_spelled}
 use Rattle.read_back.proofs.OneLine.{OneLine, made}
 
 -- ---- callees
@@ -91,7 +90,6 @@ passed_given names argument = passed_says names argument.0 argument.1
 pub record PassedReads (plain : Bool) (names : Names) (argument : Ty × Operand) : Type 0 where
   pub element : SpellsElement (passed_at plain) comma EndsAtMark (passed_text names argument) (passed_given names argument)
   pub opens : (rest : List ℕ) → EndsAtMark rest → begins (is_mark (codes ")")) (tokens (passed_text names argument ++ rest)) ≡ false
-  pub fits : given_fits (passed_given names argument) ≡ true
 
 parameter_is : (ty : Ty) → is_first_class ty ≡ true → parameter_text ty ≡ type_text ty
 parameter_is tys.Void first = cc
@@ -112,14 +110,12 @@ value_passed plain names have ty o is first narrow fits =
     let value = value_spelled names have ty narrow o is fits in record {
       element = rw (parameter_is ty first) (rw (given_is names ty o is) (passed_element plain spelled (type_allowed ty first) value));
       opens = λ rest ends. rw (parameter_is ty first) (passed_opens spelled value rest ends);
-      fits = rw (given_is names ty o is) (rw (type_fits_in ty first narrow, value_in_limit names ty narrow o fits) refl);
     }
 
 pub function_passed : (names : Names) → HaveNames names → (f : FuncId) → f.0 < length names.funcs → PassedReads true names (tys.Void, operands.Fun f)
 function_passed names have f low = record {
   element = function_element (function_name names.funcs f.0) (function-named names have f.0 low);
   opens = λ rest ends. function_opens (function_name names.funcs f.0) (function-named names have f.0 low) rest ends;
-  fits = refl;
 }
 
 pub each_element : (plain : Bool) (names : Names) (ys : List (Ty × Operand)) → AllByRecursion (PassedReads plain names) ys
@@ -131,10 +127,6 @@ each_opens : (plain : Bool) (names : Names) (ys : List (Ty × Operand)) → AllB
     → AllByRecursion (λ y. (rest : List ℕ) → EndsAtMark rest → begins (is_mark (codes ")")) (tokens (passed_text names y ++ rest)) ≡ false) ys
 each_opens plain names [] all = tt
 each_opens plain names (y ∷ ys) all = (all.0.opens, each_opens plain names ys all.1)
-
-pub each_fits : (plain : Bool) (names : Names) (ys : List (Ty × Operand)) → AllByRecursion (PassedReads plain names) ys → list_all given_fits (map (passed_given names) ys) ≡ true
-each_fits plain names [] all = refl
-each_fits plain names (y ∷ ys) all = rw all.0.fits (each_fits plain names ys all.1)
 
 -- ---- calls
 
@@ -155,7 +147,7 @@ value_call_reads names have callee types n ty os is first narrow there all =
           (callee_name names callee) (callee-named names have callee there) (passed_text names) (passed_given names) (zip types os)
           (All-from_recursion _ (zip types os) (each_element plain names (zip types os) all)) (All-from_recursion _ (zip types os) (each_opens plain names (zip types os) all)));
       says = refl;
-      fits = rw (type_fits_in ty first narrow, each_fits plain names (zip types os) all) refl;
+      fits = refl;
       stands = refl;
       counts = refl;
       kept = refl;
@@ -181,7 +173,7 @@ void_call_reads names have callee types os there all =
       items = parts.called (callee_name names callee) (map (passed_given names) (zip types os)) ∷ [];
       reads = rw (void_call_shape names callee types os) reads;
       says = refl;
-      fits = rw (each_fits plain names (zip types os) all) refl;
+      fits = refl;
       stands = refl;
       counts = refl;
       kept = refl;
@@ -208,10 +200,6 @@ each_entry names have ty narrow (e ∷ es) all = (
   each_entry names have ty narrow es all.1,
 )
 
-entries_fit : (names : Names) (ty : Ty) → IsNarrow ty → (es : List (Operand × BlockId)) → AllByRecursion (EntryFits names ty) es → list_all entry_value_fits (map (entry_says names ty) es) ≡ true
-entries_fit names ty narrow [] all = refl
-entries_fit names ty narrow (e ∷ es) all = rw (value_in_limit names ty narrow e.0 all.0.fits) (entries_fit names ty narrow es all.1)
-
 phi_shape : (names : Names) (n : List ℕ) (ty : Ty) (os : List Operand) (ls : List BlockId)
     → result_front (Some n) ++ operator_text names ast.Phi (made (Some n) ast.Phi ty os ls)
     ≡ 37 ∷ (n ++ (32 ∷ 61 ∷ 32 ∷ (codes "phi " ++ (type_text ty ++ (32 ∷ joined (codes ", ") (map (entry_text names ty) (zip os ls)))))))
@@ -226,7 +214,7 @@ phi_reads names have n ty o os l ls is first narrow all = record {
   reads = rw (phi_shape names n ty (o ∷ os) (l ∷ ls)) (phi_line n is (type_spelled ty first narrow) (type_allowed ty first) (entry_text names ty) (entry_says names ty) (o, l) (zip os ls)
       (All-from_recursion _ (zip (o ∷ os) (l ∷ ls)) (each_entry names have ty narrow (zip (o ∷ os) (l ∷ ls)) all)));
   says = refl;
-  fits = rw (type_fits_in ty first narrow, entries_fit names ty narrow (zip (o ∷ os) (l ∷ ls)) all) refl;
+  fits = refl;
   stands = refl;
   counts = refl;
   kept = refl;

@@ -9,7 +9,6 @@ use Rattle.ir_ast.specs.declared.ops.Operand.TheVariants as operands
 use Rattle.ir_ast.specs.Cells.{kind_of, word_of}
 use Rattle.line_parts.specs.declared.readings.TypeWord.TheVariants as types
 use Rattle.line_parts.specs.Parts.{is_value_type}
-use Rattle.ir_reader.specs.Limits.{type_fits}
 use Rattle.ir_lines.specs.Types.{is_cell}
 use Rattle.ir_lines.specs.Modules.{cell_of}
 use Rattle.ir_lines.specs.Faults.TypeClash.{gives_kind}
@@ -21,26 +20,21 @@ sixty_four : decimal 64 ≡ codes "64"
 sixty_four = decimal_step 64 (omega arith) (omega arith) ∙ ap (λ ds. ds ++ (52 ∷ [])) (decimal_digit 6 (omega arith))
 
 pub wide_type : SpellsType (codes "i64") (types.Int 64)
-wide_type = subst (λ (ds : List ℕ). SpellsType (105 ∷ ds) (types.Int 64)) sixty_four (integer_type 64 (omega arith))
+wide_type = subst (λ (ds : List ℕ). SpellsType (105 ∷ ds) (types.Int 64)) sixty_four (integer_type 64 (omega arith, omega arith))
 
 -- the word of a cell spells its type, which reading, resolving and the rules take for the cell's; and its kind is one
 pub record CellReads (cell : Cell) : Type 0 where
   pub spelled : SpellsType (word_of cell) (cell_word cell)
   pub is_value : is_value_type (cell_word cell) ≡ true
-  pub fits : type_fits (cell_word cell) ≡ true
   pub is_cell : is_cell (cell_word cell) ≡ true
   pub back : cell_of (cell_word cell) ≡ cell
   pub kind : (names : Names) → gives_kind (passed_says names (tys.Int 64) (operands.Int (kind_of cell))) ≡ true
 
 pub cell_reads : (cell : Cell) → CellReads cell
 cell_reads cells.I64 =
-    record { spelled = wide_type; is_value = refl; fits = refl; is_cell = refl; back = refl; kind = λ names. refl }
+    record { spelled = wide_type; is_value = refl; is_cell = refl; back = refl; kind = λ names. refl }
 cell_reads cells.Ptr =
-    record { spelled = pointer_type; is_value = refl; fits = refl; is_cell = refl; back = refl; kind = λ names. refl }
-
-pub cells_fit : (cs : List Cell) → list_all type_fits (map cell_word cs) ≡ true
-cells_fit [] = refl
-cells_fit (c ∷ cs) = rw ((cell_reads c).fits) (cells_fit cs)
+    record { spelled = pointer_type; is_value = refl; is_cell = refl; back = refl; kind = λ names. refl }
 
 pub cells_are : (cs : List Cell) → list_all is_cell (map cell_word cs) ≡ true
 cells_are [] = refl

@@ -17,6 +17,7 @@ use Rattle.line_tokens.specs.declared.words.Dropped.TheVariants as drops
 use Rattle.line_tokens.specs.declared.words.Flags.{Flags}
 use Rattle.line_tokens.specs.declared.words.Flags.TheVariants as flags
 use Rattle.line_tokens.specs.Marks.{is_word}
+use Rattle.ir_ast.specs.Widths.{IsWidth}
 use Rattle.line_parts.specs.Drops.{past_dropped}
 use Rattle.line_parts.specs.Parts.{Val, is_value_type, is_scalar_type, is_case_value}
 use Rattle.line_tokens.specs.Words.{pred_word, binary_word, binary_flags, conversion_word, conversion_flags}
@@ -166,13 +167,13 @@ binary_form ops.Ashr more = refl
 integer_drop : (n : ℕ) → n ≤ 64 → (which : Flags) (more : List Tok) → past_dropped (drops.Words which) (tok kinds.Word (105 ∷ decimal n) ∷ more) ≡ None
 integer_drop n most which more = integer_flag (decimal n) (decimal-digits n (omega arith)) which more
 
-pub binary_line : (op : Binary) (n : List ℕ) → is_name n ≡ true → (bits : ℕ) → bits ≤ 64 → {left right : List ℕ} {l r : Val} → SpellsValue left l → SpellsValue right r
+pub binary_line : (op : Binary) (n : List ℕ) → is_name n ≡ true → (bits : ℕ) → IsWidth bits → {left right : List ℕ} {l r : Val} → SpellsValue left l → SpellsValue right r
     → ReadsAs (37 ∷ (n ++ (32 ∷ 61 ∷ 32 ∷ (binary_word op ++ (32 ∷ 105 ∷ (decimal bits ++ (32 ∷ (left ++ (44 ∷ 32 ∷ right)))))))))
     (forms.Binary op) (name n ∷ width bits ∷ value l ∷ value r ∷ [])
-binary_line op n is bits most {left} {right} {l} {r} s t =
+binary_line op n is bits narrow {left} {right} {l} {r} s t =
     rw (← append-nil right) (named_line n (binary_word op) (forms.Binary op) is (binary_form op) refl
     (word (binary_word op) (binary_is op) (binary_same op) (binary_clean op) refl
-    (spaced (drop_at (drops.Words (binary_flags op)) (integer_drop bits most (binary_flags op)) (over_blank (width_step bits most refl
+    (spaced (drop_at (drops.Words (binary_flags op)) (integer_drop bits narrow.1 (binary_flags op)) (over_blank (width_step bits narrow refl
     (space (value_step s refl (mark 44 refl refl refl (space (value_step t refl (drop_end drops.Attachments end))))))))))))
 
 -- ---- comparisons
@@ -226,13 +227,13 @@ conversion_form convs.Trunc more = refl
 conversion_form convs.Zext more = refl
 conversion_form convs.Sext more = refl
 
-pub convert_line : (op : Conversion) (n : List ℕ) → is_name n ≡ true → (bits : ℕ) → bits ≤ 64 → (to : ℕ) → to ≤ 64 → {left : List ℕ} {l : Val} → SpellsValue left l
+pub convert_line : (op : Conversion) (n : List ℕ) → is_name n ≡ true → (bits : ℕ) → IsWidth bits → (to : ℕ) → IsWidth to → {left : List ℕ} {l : Val} → SpellsValue left l
     → ReadsAs (37 ∷ (n ++ (32 ∷ 61 ∷ 32 ∷ (conversion_word op ++ (32 ∷ 105 ∷ (decimal bits ++ (32 ∷ (left ++ (codes " to i" ++ decimal to)))))))))
     (forms.Convert op) (name n ∷ width bits ∷ value l ∷ width to ∷ [])
-convert_line op n is bits most to high {left} {l} s =
+convert_line op n is bits narrow to high {left} {l} s =
     rw (← append-nil (decimal to)) (named_line n (conversion_word op) (forms.Convert op) is (conversion_form op) refl
     (word (conversion_word op) (conversion_is op) (conversion_same op) (conversion_clean op) refl
-    (spaced (drop_at (drops.Words (conversion_flags op)) (integer_drop bits most (conversion_flags op)) (over_blank (width_step bits most refl
+    (spaced (drop_at (drops.Words (conversion_flags op)) (integer_drop bits narrow.1 (conversion_flags op)) (over_blank (width_step bits narrow refl
     (space (value_step s refl (space (word (codes "to") refl refl refl refl (space (width_step to high refl (drop_end drops.Attachments end)))))))))))))
 
 -- ---- select
@@ -351,22 +352,22 @@ switch_form : (more : List Tok) → word_form (codes "switch") more ≡ Some for
 unfolding word_form
 switch_form more = refl
 
-pub switch_line : (bits : ℕ) → bits ≤ 64 → {left : List ℕ} {l : Val} → SpellsValue left l → (n : List ℕ) → is_name n ≡ true
+pub switch_line : (bits : ℕ) → IsWidth bits → {left : List ℕ} {l : Val} → SpellsValue left l → (n : List ℕ) → is_name n ≡ true
     → ReadsAs (codes "switch i" ++ (decimal bits ++ (32 ∷ (left ++ (codes ", label %" ++ (n ++ codes " [")))))) forms.Switch (width bits ∷ value l ∷ name n ∷ [])
-switch_line bits most s n is =
+switch_line bits narrow s n is =
     word_line (codes "switch") forms.Switch switch_form
-    (word (codes "switch") refl refl refl refl (space (width_step bits most refl (space (value_step s refl (mark 44 refl refl refl
+    (word (codes "switch") refl refl refl refl (space (width_step bits narrow refl (space (value_step s refl (mark 44 refl refl refl
     (space (word (codes "label") refl refl refl refl (space (local n is refl (space (mark 91 refl refl refl end))))))))))))
 
-case_form_is : (bits : ℕ) → bits ≤ 64 → (more : List Tok) → word_form (105 ∷ decimal bits) more ≡ Some forms.Case
+case_form_is : (bits : ℕ) → IsWidth bits → (more : List Tok) → word_form (105 ∷ decimal bits) more ≡ Some forms.Case
 unfolding word_form
-case_form_is bits most more = rw (integer_says bits most) refl
+case_form_is bits narrow more = rw (integer_says bits narrow) refl
 
-pub case_line : (bits : ℕ) → bits ≤ 64 → {left : List ℕ} {l : Val} → SpellsValue left l → is_case_value l ≡ true → (n : List ℕ) → is_name n ≡ true
+pub case_line : (bits : ℕ) → IsWidth bits → {left : List ℕ} {l : Val} → SpellsValue left l → is_case_value l ≡ true → (n : List ℕ) → is_name n ≡ true
     → ReadsAs (105 ∷ (decimal bits ++ (32 ∷ (left ++ (codes ", label %" ++ n))))) forms.Case (width bits ∷ value l ∷ name n ∷ [])
-case_line bits most s allow n is =
-    rw (append-nil n) at (word_line (105 ∷ decimal bits) forms.Case (case_form_is bits most)
-    (width_step bits most refl (space (case_step s allow refl (mark 44 refl refl refl (space (word (codes "label") refl refl refl refl (space (local n is refl end)))))))))
+case_line bits narrow s allow n is =
+    rw (append-nil n) at (word_line (105 ∷ decimal bits) forms.Case (case_form_is bits narrow)
+    (width_step bits narrow refl (space (case_step s allow refl (mark 44 refl refl refl (space (word (codes "label") refl refl refl refl (space (local n is refl end)))))))))
 
 -- ---- steps of addresses
 
@@ -384,32 +385,32 @@ element_line {f} {rest} {t} n form is says none shape r =
     (word (codes "getelementptr") refl refl refl refl (spaced (drop_at (drops.Words flags.Bounds) none (over_blank r))))
 
 pub scalar_line : (n : List ℕ) → is_name n ≡ true → {spelled : List ℕ} {element : TypeWord} → SpellsType spelled element → is_scalar_type element ≡ true
-    → (bits : ℕ) → bits ≤ 64 → {left right : List ℕ} {l r : Val} → SpellsValue left l → SpellsValue right r
+    → (bits : ℕ) → IsWidth bits → {left right : List ℕ} {l r : Val} → SpellsValue left l → SpellsValue right r
     → ReadsAs (37 ∷ (n ++ (32 ∷ 61 ∷ 32 ∷ (codes "getelementptr " ++ (spelled ++ (codes ", ptr addrspace(1) " ++ (left ++ (codes ", i" ++ (decimal bits ++ (32 ∷ right))))))))))
     forms.ScalarElement (name n ∷ scalar element ∷ value l ∷ width bits ∷ value r ∷ [])
-scalar_line n is element allow bits most {right = right} s t =
+scalar_line n is element allow bits narrow {right = right} s t =
     rw (← append-nil right) (element_line n forms.ScalarElement is (scalar_form element.first (element.flag flags.Bounds)) (element.flag flags.Bounds) refl
     (scalar_step element allow refl (mark 44 refl refl refl (space (managed_step pointer_type refl (space (value_step s refl (mark 44 refl refl refl
-    (space (width_step bits most refl (space (value_step t refl (drop_end drops.Attachments end)))))))))))))
+    (space (width_step bits narrow refl (space (value_step t refl (drop_end drops.Attachments end)))))))))))))
 
 layout_form : (t : List ℕ) (more : List Tok) → named_form (codes "getelementptr") (tok kinds.Local t ∷ more) ≡ Some forms.LayoutElement
 unfolding named_form
 layout_form t more = rw (past_all-none (drops.Words flags.Bounds) (tok kinds.Local t ∷ more) refl) refl
 
 pub layout_line : (n : List ℕ) → is_name n ≡ true → (o : List ℕ) → is_name o ≡ true
-    → (bits : ℕ) → bits ≤ 64 → {left right : List ℕ} {l r : Val} → SpellsValue left l → SpellsValue right r
+    → (bits : ℕ) → IsWidth bits → {left right : List ℕ} {l r : Val} → SpellsValue left l → SpellsValue right r
     → ReadsAs (37 ∷ (n ++ (32 ∷ 61 ∷ 32 ∷ (codes "getelementptr %" ++ (o ++ (codes ", ptr addrspace(1) " ++ (left ++ (codes ", i" ++ (decimal bits ++ (32 ∷ right))))))))))
     forms.LayoutElement (name n ∷ layout o ∷ value l ∷ width bits ∷ value r ∷ place None ∷ [])
-layout_line n is o o_is bits most {right = right} s t =
+layout_line n is o o_is bits narrow {right = right} s t =
     rw (← append-nil right) (element_line n forms.LayoutElement is (layout_form (37 ∷ o)) (λ more. refl) refl
     (layout_step o o_is refl (mark 44 refl refl refl (space (managed_step pointer_type refl (space (value_step s refl (mark 44 refl refl refl
-    (space (width_step bits most refl (space (value_step t refl (no_place (drop_end drops.Attachments end))))))))))))))
+    (space (width_step bits narrow refl (space (value_step t refl (no_place (drop_end drops.Attachments end))))))))))))))
 
 pub field_line : (n : List ℕ) → is_name n ≡ true → (o : List ℕ) → is_name o ≡ true
-    → (bits : ℕ) → bits ≤ 64 → {left right : List ℕ} {l r : Val} → SpellsValue left l → SpellsValue right r → (field : ℕ) → field < 2 ^ 64
+    → (bits : ℕ) → IsWidth bits → {left right : List ℕ} {l r : Val} → SpellsValue left l → SpellsValue right r → (field : ℕ) → field < 2 ^ 64
     → ReadsAs (37 ∷ (n ++ (32 ∷ 61 ∷ 32 ∷ (codes "getelementptr %" ++ (o ++ (codes ", ptr addrspace(1) " ++ (left ++ (codes ", i" ++ (decimal bits ++ (32 ∷ (right ++ (codes ", i32 " ++ decimal field))))))))))))
     forms.LayoutElement (name n ∷ layout o ∷ value l ∷ width bits ∷ value r ∷ place (Some (record { negative = false; magnitude = field })) ∷ [])
-field_line n is o o_is bits most s t field small =
+field_line n is o o_is bits narrow s t field small =
     rw (← append-nil (decimal field)) (element_line n forms.LayoutElement is (layout_form (37 ∷ o)) (λ more. refl) refl
     (layout_step o o_is refl (mark 44 refl refl refl (space (managed_step pointer_type refl (space (value_step s refl (mark 44 refl refl refl
-    (space (width_step bits most refl (space (value_step t refl (place_step field small refl (drop_end drops.Attachments end))))))))))))))
+    (space (width_step bits narrow refl (space (value_step t refl (place_step field small refl (drop_end drops.Attachments end))))))))))))))

@@ -1,7 +1,6 @@
 -- The lines of a function.
 use Rattle.std.proofs.Common.{◌≡◌, refl, ℕ, true, false, List, [], ◌∷◌, ◌++◌, map, Some, codes, append_assoc}
 use Rattle.std.specs.List.{All, list_all}
-use Rattle.std.proofs.lemmas.Bool.{le-leb}
 use Rattle.std.proofs.lemmas.List.Elements.{All-head, All-tail}
 use Rattle.sp_text.specs.Tokens.{tokens, is_name}
 use Rattle.ir_ast.specs.declared.types.Ty.{Ty}
@@ -14,7 +13,6 @@ use Rattle.ir_printer.specs.Lists.{joined}
 use Rattle.ir_printer.specs.Words.{type_text, strategy_text}
 use Rattle.ir_printer.specs.Texts.{argument_of, block_text, function_text}
 use Rattle.line_parts.specs.Parts.{is_answer_type}
-use Rattle.ir_reader.specs.Limits.{type_fits, argument_fits}
 use Rattle.line_parts.specs.Lists.{argument_at, comma}
 use Rattle.line_tokens.specs.Marks.{is_mark, begins}
 use Rattle.read_back.specs.Said.{word_of, argument_says}
@@ -22,11 +20,11 @@ use Rattle.read_back.proofs.Spellings.{SpellsType, integer_type, pointer_type, v
 use Rattle.read_back.proofs.PartSteps.{strategy_word}
 use Rattle.read_back.proofs.Listed.{SpellsElement}
 use Rattle.read_back.proofs.ListForms.{EndsAtMark, argument_element, argument_opens}
-use Rattle.read_back.proofs.Operands.{IsNarrow, type_spelled, type_fits_in}
+use Rattle.read_back.proofs.Operands.{IsNarrow, type_spelled}
 
 pub answer_spelled : (ty : Ty) → is_answer ty ≡ true → IsNarrow ty → SpellsType (type_text ty) (word_of ty)
 answer_spelled tys.Void answers narrow = void_type
-answer_spelled (tys.Int width) answers narrow = integer_type width narrow.1
+answer_spelled (tys.Int width) answers narrow = integer_type width narrow
 answer_spelled tys.Ptr answers narrow = pointer_type
 answer_spelled tys.Token answers narrow = absurd cc
 
@@ -35,12 +33,6 @@ answer_allowed tys.Void answers = refl
 answer_allowed (tys.Int width) answers = refl
 answer_allowed tys.Ptr answers = refl
 answer_allowed tys.Token answers = cc
-
-pub answer_fits : (ty : Ty) → is_answer ty ≡ true → IsNarrow ty → type_fits (word_of ty) ≡ true
-answer_fits tys.Void answers narrow = refl
-answer_fits (tys.Int width) answers narrow = rw (le-leb 1 width narrow.0, le-leb width 64 narrow.1) refl
-answer_fits tys.Ptr answers narrow = refl
-answer_fits tys.Token answers narrow = refl
 
 -- an argument of a type that it may have, with a name
 pub record ArgumentSays (arg : Arg) : Type 0 where
@@ -53,7 +45,7 @@ argument_allowed arg is = by arg.ty is.first_class is.narrow
   where
     by : (ty : Ty) → is_first_class ty ≡ true → IsNarrow ty → SpellsElement (argument_at false) comma EndsAtMark (type_text ty ++ (32 ∷ 37 ∷ arg.name)) (record { ty = word_of ty; name = Some arg.name })
     by tys.Void first narrow = absurd cc
-    by (tys.Int width) first narrow = argument_element false (integer_type width narrow.1) refl arg.name is.named
+    by (tys.Int width) first narrow = argument_element false (integer_type width narrow) refl arg.name is.named
     by tys.Ptr first narrow = argument_element false pointer_type refl arg.name is.named
     by tys.Token first narrow = absurd cc
 
@@ -62,12 +54,6 @@ arguments_each args all = λ k d low. argument_allowed _ (all k d low)
 
 pub arguments_open : (args : List Arg) → All ArgumentSays args → All (λ arg. (rest : List ℕ) → EndsAtMark rest → begins (is_mark (codes ")")) (tokens (argument_of arg ++ rest)) ≡ false) args
 arguments_open args all = λ k d low rest ends. argument_opens (type_spelled _ (all k d low).first_class (all k d low).narrow) _ (all k d low).named rest ends
-
-pub arguments_fit : (args : List Arg) → All ArgumentSays args → list_all argument_fits (map argument_says args) ≡ true
-arguments_fit [] all = refl
-arguments_fit (arg ∷ args) all =
-    let here : ArgumentSays arg = All-head ArgumentSays arg args all in
-    rw (type_fits_in arg.ty here.first_class here.narrow) (arguments_fit args (All-tail ArgumentSays arg args all))
 
 strategy_shape : strategy_text ≡ (41 ∷ 32 ∷ (codes "gc " ++ (strategy_word ++ codes " {"))) ++ (10 ∷ [])
 unfolding strategy_text strategy_word

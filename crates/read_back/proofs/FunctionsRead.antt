@@ -31,7 +31,7 @@ use Rattle.read_back.proofs.LinesRead.{Says, says-both, says-line, formed_in, en
 use Rattle.read_back.proofs.Operands.{IsNarrow}
 use Rattle.read_back.proofs.Chains.{behind_all, behind_block}
 use Rattle.read_back.proofs.Blocks.{weight, Room, room-fits, room_still, AllBlocksSay, blocks_read, blocks_closed, blocks_form, blocks_room}
-use Rattle.read_back.proofs.Functions.{ArgumentSays, answer_spelled, answer_allowed, answer_fits, arguments_each, arguments_open, arguments_fit, function_shape}
+use Rattle.read_back.proofs.Functions.{ArgumentSays, answer_spelled, answer_allowed, arguments_each, arguments_open, function_shape}
 
 abbrev pub names_in : List ObjectLayout → List Function → Function → Names
 names_in layouts funcs func = record { layouts = layouts; funcs = funcs; func = func }
@@ -93,7 +93,7 @@ head_outcome of layouts funcs func s is top fit =
     let line : ReadsIn s.form (head_text func) forms.Define (head_items func) = in_both s.form refl (head_line of layouts funcs func is) in
     let same : length (map argument_says func.args) ≡ length func.args = length-map func.args argument_says in
     let fits : list_all item_fits (head_items func) ≡ true =
-    rw (answer_fits func.answer is.answers is.narrow, le-leb (length func.name) 4096 is.short, same, le-leb (length func.args) 64 is.few, arguments_fit func.args is.args) refl in
+    rw (le-leb (length func.name) 4096 is.short, same, le-leb (length func.args) 64 is.few) refl in
     rw same at (formed_in s (head_text func) forms.Define places.Entry (head_items func) line.clean (rw top refl) line.form_is line.whole (rw top refl) refl fits (rw same fit))
 
 end_outcome : (s : State) → s.place ≡ places.Closed → counts_fit (behind_close s).counts ≡ true → outcome s (codes "}") ≡ said (of_form forms.Close []) (behind_close s)

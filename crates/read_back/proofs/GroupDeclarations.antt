@@ -1,6 +1,5 @@
 -- The declarations of the three families, as they are printed: they are read and dropped.
 use Rattle.std.proofs.Common.{◌≡◌, refl, ap, ◌∙◌, ℕ, ◌≤◌, true, List, [], ◌∷◌, ◌++◌, Option, Some, None, arith, codes, decimal}
-use Rattle.std.proofs.lemmas.Bool.{le-leb}
 use Rattle.std.specs.List.{list_all}
 use Rattle.std.specs.Char.{is_ascii_digit}
 use Rattle.sp_text.specs.Tokens.{Tok, tok, tokens, is_name, are_digits}
@@ -12,7 +11,6 @@ use Rattle.line_tokens.specs.declared.words.Dropped.TheVariants as drops
 use Rattle.line_parts.specs.declared.readings.TypeWord.{TypeWord}
 use Rattle.line_parts.specs.declared.readings.TypeWord.TheVariants as types
 use Rattle.line_forms.specs.Slots.{family_answer}
-use Rattle.ir_reader.specs.Limits.{answer_fits}
 use Rattle.line_tokens.specs.Families.{statepoint_name, relocate_name, result_suffix, result_front, is_family_name}
 use Rattle.line_forms.proofs.FamilyLines.{fit_is}
 use Rattle.line_forms.specs.Forms.{slots, form_in, declared_form, declared_of, first_global}
@@ -47,24 +45,21 @@ integer_name ds digits = rw (digits_named ds digits) refl
 
 -- ---- lines
 
--- the line is read and dropped, and what the function answers is within the limits
+-- the line is read and dropped
 pub record IsDropped (line : List ℕ) : Type 0 where
   pub answer : Option TypeWord
   pub reads : ReadsIn text_forms.Rewritten line (forms.Dropped drop_lines.Family) (family_answer answer ∷ [])
-  pub fits : answer_fits answer ≡ true
 
 pub relocate_declared : IsDropped (codes "declare ptr addrspace(1) @llvm.experimental.gc.relocate.p1(token, i32, i32)")
 relocate_declared = record {
   answer = Some types.Managed;
   reads = family_line pointer_type refl pointer_other (codes "llvm.experimental.gc.relocate.p1") refl relocate_family (codes "token, i32, i32)") refl (relocate_bracket []);
-  fits = refl;
 }
 
 pub pointer_declared : IsDropped (codes "declare ptr addrspace(1) @llvm.experimental.gc.result.p1(token)")
 pointer_declared = record {
   answer = Some types.Managed;
   reads = family_line pointer_type refl pointer_other (codes "llvm.experimental.gc.result.p1") refl pointer_family (codes "token)") refl (result_bracket []);
-  fits = refl;
 }
 
 pub integer_declared : (width : ℕ) → (1 ≤ width) × (width ≤ 64) → IsDropped (codes "declare i" ++ (decimal width ++ (codes " @llvm.experimental.gc.result.i" ++ (decimal width ++ codes "(token)"))))
@@ -72,9 +67,8 @@ integer_declared width narrow =
     let most : width ≤ 64 = narrow.1 in
     record {
       answer = Some (types.Int width);
-      reads = family_line (integer_type width most) refl (integer_other width most) (codes "llvm.experimental.gc.result.i" ++ decimal width) (integer_name (decimal width) (decimal-is width (omega arith)).digits)
+      reads = family_line (integer_type width narrow) refl (integer_other width narrow) (codes "llvm.experimental.gc.result.i" ++ decimal width) (integer_name (decimal width) (decimal-is width (omega arith)).digits)
           (integer_family (decimal width) (decimal-digits width (omega arith))) (codes "token)") refl (result_bracket []);
-      fits = rw (le-leb 1 width narrow.0, le-leb width 64 most) refl;
     }
 
 -- the one of a statepoint answers a token
@@ -91,7 +85,7 @@ statepoint_declares ts =
     rw (past_all-none drops.HeadAttachments (tok kinds.Word (codes "token") ∷ rest) (word_none (codes "token") rest)) (rw (past_all-none drops.Groups (tok kinds.Word (codes "token") ∷ rest) refl) refl)
 
 pub statepoint_declared : IsDropped (codes "declare token @llvm.experimental.gc.statepoint.p0(i64, i32, ptr, i32, i32, ...)")
-statepoint_declared = record { answer = None; reads = record { form_is = form_is; whole = fit_is (forms.Dropped drop_lines.Family) _ _ [] all.whole refl; clean = all.clean }; fits = refl }
+statepoint_declared = record { answer = None; reads = record { form_is = form_is; whole = fit_is (forms.Dropped drop_lines.Family) _ _ [] all.whole refl; clean = all.clean } }
   where
     all : Reads (slots (forms.Dropped drop_lines.Family)) (codes "declare token @llvm.experimental.gc.statepoint.p0(i64, i32, ptr, i32, i32, ...)") (Some (tok kinds.Word (codes "declare"))) (family_answer None ∷ [])
     all = word (codes "declare") refl refl refl refl (spaced (drop_at drops.HeadAttachments (word_none (codes "token")) (drop_at drops.Groups (λ more. refl) (over_blank (token_answer_step refl

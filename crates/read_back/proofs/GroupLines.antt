@@ -10,6 +10,7 @@ use Rattle.std.proofs.lemmas.List.Elements.{All-from_recursion}
 use Rattle.sp_ids.specs.Numbers.{wrapped, signed}
 use Rattle.sp_text.specs.Tokens.{Tok, tok, tokens, is_name, are_digits}
 use Rattle.sp_text.specs.declared.tokens.Kind.TheVariants as kinds
+use Rattle.ir_ast.specs.Widths.{IsWidth}
 use Rattle.ir_ast.specs.declared.modules.Form.TheVariants as text_forms
 use Rattle.ir_ast.specs.declared.types.Ty.{Ty}
 use Rattle.ir_ast.specs.declared.types.Ty.TheVariants as tys
@@ -34,7 +35,7 @@ use Rattle.line_parts.specs.declared.readings.TypeWord.TheVariants as types
 use Rattle.line_forms.specs.declared.forms.Form.TheVariants as forms
 use Rattle.line_tokens.specs.Families.{is_suffix}
 use Rattle.line_parts.specs.Gives.{after}
-use Rattle.ir_reader.specs.Limits.{item_fits, type_fits, value_fits, literal_fits}
+use Rattle.ir_reader.specs.Limits.{item_fits}
 use Rattle.line_parts.specs.Lists.{comma, is_argument_type, is_task_start}
 use Rattle.line_tokens.specs.Marks.{is_mark, begins}
 use Rattle.line_parts.specs.Parts.{allowed_type_at, spelled_type_at, pointer_at}
@@ -46,10 +47,10 @@ use Rattle.read_back.proofs.Steps.{first_of}
 use Rattle.read_back.proofs.Spellings.{SpellsLiteral, literal_token, signed-spellable, integer_suffix, integer_type, pointer_type, decimal-is, decimal-digits}
 use Rattle.read_back.proofs.Listed.{SpellsElement, others}
 use Rattle.read_back.proofs.ListForms.{EndsAtMark, type_element, type_opens, plain_opens, plain_spelled, goes_by_comma}
-use Rattle.read_back.proofs.Operands.{HaveNames, IsNarrow, value-named, type_fits_in, value_spelled, value_in_limit, spellable_fits}
-use Rattle.read_back.proofs.Functions.{answer_spelled, answer_allowed, answer_fits}
+use Rattle.read_back.proofs.Operands.{HaveNames, IsNarrow, value-named, value_spelled}
+use Rattle.read_back.proofs.Functions.{answer_spelled, answer_allowed}
 use Rattle.read_back.proofs.BackLists.{CalleeBelow}
-use Rattle.read_back.proofs.CallLines.{PassedReads, passed_text, passed_given, callee-named, digits_named, each_element, each_fits}
+use Rattle.read_back.proofs.CallLines.{PassedReads, passed_text, passed_given, callee-named, digits_named, each_element}
 use Rattle.read_back.proofs.OneLine.{LineIn, made}
 use Rattle.read_back.proofs.GroupSteps.{call_spelled, SpellsCall, live_element, live_opens}
 use Rattle.read_back.proofs.FormsIn.{ReadsIn}
@@ -63,9 +64,6 @@ integer_literal width number most more = by (ne_eqb width 1 (λ e. omega arith))
   where
     by : (width == 1) ≡ false → SpellsLiteral (if width == 1 then (if wrapped 1 number == 0 then codes "false" else codes "true") else signed_decimal (signed width number)) (literal_of (signed width number))
     by other = rw other (literal_token (signed width number) (signed-spellable width number most))
-
-signed_fits : (width number : ℕ) → width ≤ 64 → literal_fits (literal_of (signed width number)) ≡ true
-signed_fits width number most = spellable_fits (signed width number) (signed-spellable width number most)
 
 thirty_two : decimal 32 ≡ codes "32"
 thirty_two = decimal_step 32 (omega arith) (omega arith) ∙ ap (λ ds. ds ++ (50 ∷ [])) (decimal_digit 3 (omega arith))
@@ -92,25 +90,15 @@ plain_taken = record {
 
 taken_read : (ty : Ty) → IsTaken ty → SpellsElement (allowed_type_at (is_argument_type true)) comma EndsAtMark (parameter_text ty) (parameter_says ty)
 taken_read tys.Void taken = plain_taken
-taken_read (tys.Int width) taken = type_element (is_argument_type true) (integer_type width taken.1.1) refl
+taken_read (tys.Int width) taken = type_element (is_argument_type true) (integer_type width taken.1) refl
 taken_read tys.Ptr taken = type_element (is_argument_type true) pointer_type refl
 taken_read tys.Token taken = absurd (let bad : false ≡ true = taken.0 in cc)
 
 taken_opens : (ty : Ty) → IsTaken ty → (rest : List ℕ) → EndsAtMark rest → begins (is_mark (codes ")")) (tokens (parameter_text ty ++ rest)) ≡ false
 taken_opens tys.Void taken rest ends = plain_opens rest ends
-taken_opens (tys.Int width) taken rest ends = type_opens (integer_type width taken.1.1) (codes ")") rest ends
+taken_opens (tys.Int width) taken rest ends = type_opens (integer_type width taken.1) (codes ")") rest ends
 taken_opens tys.Ptr taken rest ends = type_opens pointer_type (codes ")") rest ends
 taken_opens tys.Token taken rest ends = absurd (let bad : false ≡ true = taken.0 in cc)
-
-taken_fits : (ty : Ty) → IsTaken ty → type_fits (parameter_says ty) ≡ true
-taken_fits tys.Void taken = refl
-taken_fits (tys.Int width) taken = type_fits_in (tys.Int width) taken.0 taken.1
-taken_fits tys.Ptr taken = refl
-taken_fits tys.Token taken = absurd (let bad : false ≡ true = taken.0 in cc)
-
-all_fit : (takes : List Ty) → AllByRecursion IsTaken takes → list_all type_fits (map parameter_says takes) ≡ true
-all_fit [] all = refl
-all_fit (ty ∷ takes) all = rw (taken_fits ty all.0) (all_fit takes all.1)
 
 each_taken : (takes : List Ty) → AllByRecursion IsTaken takes → AllByRecursion (λ ty. SpellsElement (allowed_type_at (is_argument_type true)) comma EndsAtMark (parameter_text ty) (parameter_says ty)) takes
 each_taken [] all = tt
@@ -139,10 +127,6 @@ each_live_opens : (names : Names) → HaveNames names → (entries : List Operan
     → AllByRecursion (λ entry. (rest : List ℕ) → EndsAtMark rest → begins (is_mark (codes ")")) (tokens (entry_text names entry ++ rest)) ≡ false) entries
 each_live_opens names have [] all = tt
 each_live_opens names have (entry ∷ entries) all = (live_opens (value_spelled names have tys.Ptr tt entry all.0.value all.0.fits), each_live_opens names have entries all.1)
-
-live_values_fit : (names : Names) (entries : List Operand) → AllByRecursion (IsLive names) entries → list_all value_fits (map (value_says names tys.Ptr) entries) ≡ true
-live_values_fit names [] all = refl
-live_values_fit names (entry ∷ entries) all = rw (value_in_limit names tys.Ptr tt entry all.0.fits) (live_values_fit names entries all.1)
 
 -- what is known of a statepoint
 pub record IsGuarded (names : Names) (callee : Callee) (takes : List Ty) (n : List ℕ) (ty : Ty) (os : List Operand) : Type 0 where
@@ -188,8 +172,8 @@ call_says names id callee takes n ty os more =
     parts.name n ∷ parts.literal (literal_of (signed 64 id)) ∷ parts.ty (word_of ty) ∷ parts.types (map parameter_says takes) ∷ parts.name (callee_name names callee)
     ∷ parts.literal (literal_of (pos (length takes))) ∷ parts.handed (map (passed_given names) (zip takes os)) ∷ more
 
-live_in_limit : (names : Names) (entries : List Operand) → AllByRecursion (IsLive names) entries → length entries ≤ 16384 → item_fits (parts.live (map (value_says names tys.Ptr) entries)) ≡ true
-live_in_limit names entries all few = rw (length-map entries (value_says names tys.Ptr), le-leb (length entries) 16384 few, live_values_fit names entries all) refl
+live_in_limit : (names : Names) (entries : List Operand) → length entries ≤ 16384 → item_fits (parts.live (map (value_says names tys.Ptr) entries)) ≡ true
+live_in_limit names entries few = rw (length-map entries (value_says names tys.Ptr), le-leb (length entries) 16384 few) refl
 
 -- `%t = call token (..) @llvm.experimental.gc.statepoint.p0(.. @f, .. T V, ..) [ "gc-live"(P V, ..) ]`
 pub statepoint_reads : (names : Names) → HaveNames names → (id : ℕ) (callee : Callee) (takes : List Ty) (n : List ℕ) (ty : Ty) (os : List Operand) → IsGuarded names callee takes n ty os
@@ -199,13 +183,7 @@ statepoint_reads names have id callee takes n ty os is = record {
   items = call_says names id callee takes n ty os (parts.live (map (value_says names tys.Ptr) (drop (length takes) os)) ∷ []);
   reads = rw (statepoint_shape names id callee takes n ty os) (by (drop (length takes) os) is.live);
   says = refl;
-  fits = rw (
-    signed_fits 64 id (omega arith),
-    answer_fits ty is.answers is.narrow,
-    all_fit takes is.taken,
-    each_fits (is_task_start (callee_name names callee)) names (zip takes os) is.passed,
-    live_in_limit names (drop (length takes) os) is.live is.few,
-  ) refl;
+  fits = rw (live_in_limit names (drop (length takes) os) is.few) refl;
   stands = refl;
   counts = refl;
   kept = refl;
@@ -231,12 +209,12 @@ digits_word ds digits = or_right (bytes_eq (105 ∷ ds) (codes "p1")) (are_digit
 integer_named : (ds : List ℕ) → list_all is_ascii_digit ds ≡ true → is_name (codes "llvm.experimental.gc.result." ++ (105 ∷ ds)) ≡ true
 integer_named ds digits = rw (digits_named ds digits) refl
 
-integer_result : (width : ℕ) (most : width ≤ 64) → ResultNamed (integer_type width most) (105 ∷ decimal width)
-integer_result width most = record {
+integer_result : (width : ℕ) (narrow : IsWidth width) → ResultNamed (integer_type width narrow) (105 ∷ decimal width)
+integer_result width narrow = record {
   allowed = refl;
-  same = integer_suffix width most;
-  ends = digits_word (decimal width) (decimal-digits width (omega arith));
-  named = integer_named (decimal width) (decimal-is width (omega arith)).digits;
+  same = integer_suffix width narrow;
+  ends = digits_word (decimal width) (decimal-digits width (omega (arith, narrow.1)));
+  named = integer_named (decimal width) (decimal-is width (omega (arith, narrow.1))).digits;
 }
 
 pointer_result : ResultNamed pointer_type (codes "p1")
@@ -256,7 +234,7 @@ result_reads names have n ty token is first narrow low = record {
   items = parts.name n ∷ parts.ty (word_of ty) ∷ parts.name (value_name names.func token.0) ∷ [];
   reads = rw (result_shape names n ty token) (by ty first narrow);
   says = refl;
-  fits = rw (type_fits_in ty first narrow) refl;
+  fits = refl;
   stands = refl;
   counts = refl;
   kept = refl;
@@ -269,7 +247,7 @@ result_reads names have n ty token is first narrow low = record {
         → ReadsIn text_forms.Rewritten (37 ∷ (n ++ (32 ∷ 61 ∷ 32 ∷ (codes "call " ++ (type_text ty ++ (32 ∷ 64 ∷ ((codes "llvm.experimental.gc.result." ++ result_suffix ty) ++ (40 ∷ (codes "token %" ++ (value_name names.func token.0 ++ codes ")"))))))))))
         forms.GcResult (parts.name n ∷ parts.ty (word_of ty) ∷ parts.name (value_name names.func token.0) ∷ [])
     by tys.Void first narrow = absurd (let bad : false ≡ true = first in cc)
-    by (tys.Int width) first narrow = result_line n is (integer_type width narrow.1) (105 ∷ decimal width) (integer_result width narrow.1) (value_name names.func token.0) t_is
+    by (tys.Int width) first narrow = result_line n is (integer_type width narrow) (105 ∷ decimal width) (integer_result width narrow) (value_name names.func token.0) t_is
     by tys.Ptr first narrow = result_line n is pointer_type (codes "p1") pointer_result (value_name names.func token.0) t_is
     by tys.Token first narrow = absurd (let bad : false ≡ true = first in cc)
 
@@ -299,7 +277,7 @@ relocate_reads names have n token base derived is low = record {
   items = parts.name n ∷ parts.name (value_name names.func token.0) ∷ parts.literal (literal_of (signed 32 base)) ∷ parts.literal (literal_of (signed 32 derived)) ∷ [];
   reads = rw (relocate_shape names n token base derived) (relocate_line n is (value_name names.func token.0) (value-named names have token.0 low) (integer_literal 32 base (omega arith) (omega arith)) (integer_literal 32 derived (omega arith) (omega arith)));
   says = refl;
-  fits = rw (signed_fits 32 base (omega arith), signed_fits 32 derived (omega arith)) refl;
+  fits = refl;
   stands = refl;
   counts = refl;
   kept = refl;

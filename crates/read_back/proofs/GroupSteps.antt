@@ -15,7 +15,7 @@ use Rattle.line_tokens.specs.declared.words.Dropped.TheVariants as drops
 use Rattle.line_parts.specs.Drops.{past_all, after_bracket}
 use Rattle.line_tokens.specs.Families.{is_result_of, is_family_name}
 use Rattle.ir_printer.specs.Lists.{joined}
-use Rattle.line_parts.specs.Gives.{Found, after, one_at, with_rest}
+use Rattle.line_parts.specs.Gives.{Found, after, one_at, with_rest, one_noted_at}
 use Rattle.line_parts.specs.Lists.{Given, given, comma, list_to, is_argument_type, is_task_start, passed_at, given_behind}
 use Rattle.line_tokens.specs.Marks.{is_mark, is_word, begins, stands}
 use Rattle.line_tokens.specs.Numbers.{decimal_from}
@@ -81,8 +81,8 @@ token_step {rest = rest} n is stop r =
     (token_then kinds.Word (codes "token") refl refl (blank_then (token_then kinds.Local (37 ∷ n) is stop (as_is rest)))).is (token_part n is (tokens rest)) r
 
 number_part : (of_type : List ℕ) → bytes_eq of_type of_type ≡ true → {text : List ℕ} {l : Literal} → SpellsLiteral text l → (ts : List Tok) → part (a_number of_type) (tok kinds.Word of_type ∷ tok kinds.Number text ∷ ts) ≡ Some (literal l ∷ [], ts)
-unfolding part after number_at one_at
-number_part of_type same {text} s ts = rw same (rw (past_all-none drops.Groups (tok kinds.Number text ∷ ts) refl) (rw s.says refl))
+unfolding part after number_at one_at one_noted_at
+number_part of_type same {text} s ts = rw same (rw (past_all-none drops.Groups (tok kinds.Number text ∷ ts) refl) (rw s.spelling.says (rw s.spelling.within refl)))
 
 number_stops : (rest : List ℕ) → Stops rest → stops (continues kinds.Number) rest ≡ true
 number_stops rest stop = stops-kind kinds.Number rest stop
@@ -177,7 +177,7 @@ found_if is = cond is (Some tt) None
 
 -- `i32 0` is an argument too
 zero_passed : (plain : Bool) (ts us : List Tok) → zero_at ts ≡ Some (tt, us) → passed_at plain ts ≡ Some (given (types.Int 32) (values.number (record { negative = false; magnitude = 0 })), us)
-unfolding zero_at passed_at after one_at allowed_type_at spelled_type_at decimal_from
+unfolding zero_at passed_at after one_at one_noted_at allowed_type_at spelled_type_at decimal_from
 zero_passed plain (tok kinds.Word bytes ∷ ts) us e = by (bytes_eq bytes (codes "i32")) refl e
   where
     digits : (q : List Tok) → one_at (stands is_zero) q ≡ Some (tt, us) → given_behind (types.Int 32) q ≡ Some (given (types.Int 32) (values.number (record { negative = false; magnitude = 0 })), us)
@@ -331,8 +331,8 @@ call_step {callee = callee} {ptext = ptext} {psaid = psaid} {ps = ps} {text = te
 -- ---- live entries
 
 live_says : {bytes : List ℕ} {v : Val} (s : SpellsValue bytes v) (ts : List Tok) → live_entry_at (tok kinds.Word pointer_type.first ∷ (pointer_type.more ++ (tok s.kind bytes ∷ ts))) ≡ Some (v, ts)
-unfolding live_entry_at after one_at
-live_says {bytes} s ts = rw (allowed (codes "ptr addrspace(1)") types.Managed pointer_type is_managed refl (tok s.kind bytes ∷ ts)) (rw s.says refl)
+unfolding live_entry_at after one_noted_at
+live_says {bytes} s ts = rw (allowed (codes "ptr addrspace(1)") types.Managed pointer_type is_managed refl (tok s.kind bytes ∷ ts)) (rw s.says (rw s.within refl))
 
 -- `P V`
 pub live_element : {bytes : List ℕ} {v : Val} → SpellsValue bytes v → SpellsElement live_entry_at comma EndsAtMark (codes "ptr addrspace(1)" ++ (32 ∷ bytes)) v

@@ -160,7 +160,7 @@ no_form text_forms.Rewritten = refl
 
 -- a reading that passes no limit
 within_said : (s : State) (place : Place) (what : Said) → said_fits what ≡ true → limits.counts_fit (texts.next_state s place what).counts ≡ true
-    → within s place what ≡ said what (texts.next_state s place what)
+    → within s place what false ≡ said what (texts.next_state s place what)
 within_said s place what fits counts = rw (fits, counts) refl
 
 tokens_said : (s : State) (ts : List Tok) (form : Form) (place : Place) (items : List Item) → form_in s.form ts ≡ Some form → fit form ts ≡ Some (items, [])

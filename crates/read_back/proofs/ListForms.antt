@@ -10,7 +10,7 @@ use Rattle.line_parts.specs.declared.readings.TypeWord.TheVariants as types
 use Rattle.line_forms.specs.declared.forms.Form.TheVariants as forms
 use Rattle.line_tokens.specs.declared.words.Dropped.TheVariants as drops
 use Rattle.line_tokens.specs.declared.words.Flags.TheVariants as flags
-use Rattle.line_parts.specs.Gives.{after, one_at}
+use Rattle.line_parts.specs.Gives.{after, one_at, one_noted_at}
 use Rattle.line_tokens.specs.Marks.{is_mark, begins}
 use Rattle.line_parts.specs.Drops.{past_dropped}
 use Rattle.line_parts.specs.Parts.{Val, is_value_type, is_answer_type, allowed_type_at, spelled_type_at, pointer_at, value_at}
@@ -161,10 +161,10 @@ argument_type plain types.Managed allow = refl
 
 passed_says : {text bytes : List ℕ} {of_type : TypeWord} {v : Val} (plain : Bool) (t : SpellsType text of_type) → is_value_type of_type ≡ true → (s : SpellsValue bytes v) (ts : List Tok)
     → passed_at plain (tok kinds.Word t.first ∷ (t.more ++ (tok s.kind bytes ∷ ts))) ≡ Some (given of_type v, ts)
-unfolding passed_at after one_at
+unfolding passed_at after one_noted_at
 passed_says {text} {bytes} {of_type} plain t allow s ts =
     rw (allowed text of_type t (is_argument_type plain) (argument_type plain of_type allow) (tok s.kind bytes ∷ ts))
-    (rw (past_all-none drops.Groups (tok s.kind bytes ∷ ts) (s.group ts)) (rw (value_behind of_type allow (tok s.kind bytes ∷ ts)) (rw s.says refl)))
+    (rw (past_all-none drops.Groups (tok s.kind bytes ∷ ts) (s.group ts)) (rw (value_behind of_type allow (tok s.kind bytes ∷ ts)) (rw s.says (rw s.within refl))))
 
 pub passed_spelled : {text bytes : List ℕ} {of_type : TypeWord} {v : Val} (t : SpellsType text of_type) (s : SpellsValue bytes v) (rest : List ℕ) → Stops rest
     → tokens ((text ++ (32 ∷ bytes)) ++ rest) ≡ tok kinds.Word t.first ∷ (t.more ++ (tok s.kind bytes ∷ tokens rest))
@@ -247,8 +247,8 @@ entry_tokens {bytes} s l is rest =
 
 entry_says : {bytes : List ℕ} {v : Val} (s : SpellsValue bytes v) (l : List ℕ) → is_name l ≡ true → (ts : List Tok)
     → entry_at (tok kinds.Punct (codes "[") ∷ tok s.kind bytes ∷ tok kinds.Punct (codes ",") ∷ tok kinds.Local (37 ∷ l) ∷ tok kinds.Punct (codes "]") ∷ ts) ≡ Some ((v, l), ts)
-unfolding entry_at after one_at
-entry_says s l is ts = rw (s.says, is) refl
+unfolding entry_at after one_at one_noted_at
+entry_says s l is ts = rw (s.says, is) (rw s.within refl)
 
 entry_shape : (bytes l rest : List ℕ) → (91 ∷ 32 ∷ (bytes ++ (44 ∷ 32 ∷ 37 ∷ (l ++ (32 ∷ 93 ∷ []))))) ++ rest ≡ 91 ∷ 32 ∷ (bytes ++ (44 ∷ 32 ∷ 37 ∷ (l ++ (32 ∷ 93 ∷ rest))))
 entry_shape bytes l rest = simp append_assoc

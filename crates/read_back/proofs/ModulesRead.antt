@@ -48,7 +48,7 @@ use Rattle.ir_lines.specs.Statements.{Line, Statement, stated}
 use Rattle.ir_lines.specs.Statements as statements
 use Rattle.read_back.specs.Said.{cell_word, layout_says, unnamed, declaration_says, declaration_if_called, function_says, said_by}
 use Rattle.read_back.proofs.BackFaults.{IsBelow, externals_below}
-use Rattle.read_back.proofs.Cells.{cell_reads, cells_fit, wide_type}
+use Rattle.read_back.proofs.Cells.{cell_reads, wide_type}
 use Rattle.read_back.proofs.Spellings.{SpellsType, integer_type, pointer_type, void_type}
 use Rattle.read_back.proofs.Forms.{ReadsAs}
 use Rattle.read_back.proofs.Listed.{SpellsElement}
@@ -105,7 +105,7 @@ layout_read of layout c is room =
     (λ k d low. let one = cell_reads (get_or layout.fields k d) in field_element one.spelled one.is_value)
     (λ k d low rest ends. type_opens (cell_reads (get_or layout.fields k d)).spelled (codes "}") rest ends) in
     let count : length (map cell_word layout.fields) ≡ length layout.fields = length-map layout.fields cell_word in
-    let fits : list_all item_fits items ≡ true = rw (le-leb (length layout.name) 4096 is.short, count, le-leb (length layout.fields) 64 is.few, cells_fit layout.fields) refl in
+    let fits : list_all item_fits items ≡ true = rw (le-leb (length layout.name) 4096 is.short, count, le-leb (length layout.fields) 64 is.few) refl in
     rw (layout_bytes layout.name (joined (codes ", ") (map word_of layout.fields))) (top_line of c text forms.Layout items (in_both of refl reads) refl refl refl fits room)
 
 abbrev behind_layouts : TextForm → List ObjectLayout → Counts → Counts
@@ -198,10 +198,10 @@ dropped_top : (c : Counts) (text : List ℕ) → IsDropped text → is_metadata 
 dropped_top c text reads other =
     says-nothing (at_top text_forms.Rewritten c) text (ends_none-clean text reads.reads.clean)
     (dropped_in (at_top text_forms.Rewritten c) text (forms.Dropped drop_lines.Family) places.Top (parts.family_answer reads.answer ∷ []) reads.reads.clean other reads.reads.form_is reads.reads.whole refl refl
-    (rw reads.fits refl))
+    refl)
 
 bit_type : SpellsType (codes "i1") (types.Int 1)
-bit_type = subst (λ (ds : List ℕ). SpellsType (105 ∷ ds) (types.Int 1)) (decimal_digit 1 (omega arith)) (integer_type 1 (omega arith))
+bit_type = subst (λ (ds : List ℕ). SpellsType (105 ∷ ds) (types.Int 1)) (decimal_digit 1 (omega arith)) (integer_type 1 (omega arith, omega arith))
 
 result_bytes : (ds : List ℕ) → codes "declare i" ++ (ds ++ (result_of_words ++ (ds ++ codes "(token)\n"))) ≡ (codes "declare i" ++ (ds ++ (codes " @llvm.experimental.gc.result.i" ++ (ds ++ codes "(token)")))) ++ (10 ∷ [])
 unfolding result_of_words

@@ -1,6 +1,5 @@
 -- Conversions, selections, branches, returns and steps of addresses on their lines.
 use Rattle.std.proofs.Common.{◌≡◌, refl, ℕ, ◌<◌, ◌≤◌, true, false, List, [], ◌∷◌, ◌++◌, length, Some, None, arith, codes, decimal, append_assoc, inl}
-use Rattle.std.proofs.lemmas.Bool.{le-leb}
 use Rattle.std.proofs.lemmas.Fmt.{decimal_digit}
 use Rattle.sp_ids.specs.declared.ids.BlockId.{BlockId}
 use Rattle.sp_text.specs.Tokens.{is_name}
@@ -25,7 +24,7 @@ use Rattle.line_forms.specs.Slots as parts
 use Rattle.ir_lines.specs.Statements as statements
 use Rattle.read_back.specs.Said.{word_of, value_says, operator_says, convert_says}
 use Rattle.read_back.proofs.Forms.{convert_line, select_line, branch_line, return_line}
-use Rattle.read_back.proofs.Operands.{HaveNames, IsNarrow, block-named, type_spelled, type_allowed, type_fits_in, value_spelled, value_in_limit}
+use Rattle.read_back.proofs.Operands.{HaveNames, IsNarrow, block-named, type_spelled, type_allowed, value_spelled}
 use Rattle.read_back.proofs.OneLine.{OneLine, made}
 
 convert_shape : (names : Names) (op : Conversion) (o : Op) (n : List ℕ) (bits to : ℕ) (a : Operand)
@@ -43,9 +42,9 @@ pub convert_reads : (names : Names) → HaveNames names → (op : Conversion) (o
 convert_reads names have op o n bits to a is narrow high a_is a_fits text say inside = record {
   form = forms.Convert op;
   items = parts.name n ∷ parts.width bits ∷ parts.value (value_says names (tys.Int bits) a) ∷ parts.width to ∷ [];
-  reads = rw text (rw (convert_shape names op o n bits to a) (convert_line op n is bits narrow.1 to high.1 (value_spelled names have (tys.Int bits) narrow a a_is a_fits)));
+  reads = rw text (rw (convert_shape names op o n bits to a) (convert_line op n is bits narrow to high (value_spelled names have (tys.Int bits) narrow a a_is a_fits)));
   says = say;
-  fits = rw (le-leb 1 bits narrow.0, le-leb bits 64 narrow.1, value_in_limit names (tys.Int bits) narrow a a_fits, le-leb 1 to high.0, le-leb to 64 high.1) refl;
+  fits = refl;
   stands = rw inside refl;
   counts = refl;
   kept = refl;
@@ -74,7 +73,7 @@ select_reads names have n ty c a b is first narrow c_is a_is b_is c_fits a_fits 
   reads = rw (select_shape names n ty c a b) (select_line n is (type_spelled ty first narrow) (type_allowed ty first)
       (value_spelled names have (tys.Int 1) condition_narrow c c_is c_fits) (value_spelled names have ty narrow a a_is a_fits) (value_spelled names have ty narrow b b_is b_fits));
   says = refl;
-  fits = rw (value_in_limit names (tys.Int 1) condition_narrow c c_fits, type_fits_in ty first narrow, value_in_limit names ty narrow a a_fits, value_in_limit names ty narrow b b_fits) refl;
+  fits = refl;
   stands = refl;
   counts = refl;
   kept = refl;
@@ -95,7 +94,7 @@ branch_reads names have ty c l m c_is c_fits l_low m_low = record {
   reads = rw (branch_shape names ty c l m) (branch_line (value_spelled names have (tys.Int 1) condition_narrow c c_is c_fits)
       (block_name names.func l.0) (block_name names.func m.0) (block-named names have l.0 l_low) (block-named names have m.0 m_low));
   says = refl;
-  fits = rw (value_in_limit names (tys.Int 1) condition_narrow c c_fits) refl;
+  fits = refl;
   stands = refl;
   counts = refl;
   kept = refl;
@@ -124,7 +123,7 @@ return_reads names have ty a first narrow a_is a_fits = record {
   items = parts.ty (word_of ty) ∷ parts.value (value_says names ty a) ∷ [];
   reads = rw (return_shape names ty a first) (return_line (type_spelled ty first narrow) (type_allowed ty first) ((type_spelled ty first narrow).other (type_allowed ty first)) (value_spelled names have ty narrow a a_is a_fits));
   says = return_said names ty a first;
-  fits = rw (type_fits_in ty first narrow, value_in_limit names ty narrow a a_fits) refl;
+  fits = refl;
   stands = refl;
   counts = refl;
   kept = refl;

@@ -2,7 +2,6 @@
 use Rattle.std.proofs.Common.{◌≡◌, refl, ap, sym, ◌∙◌, ℕ, ◌<◌, ◌≤◌, true, false, cond, List, [], ◌∷◌, ◌++◌, length, Option, Some, None, codes, decimal, append_assoc, inl, inr}
 use Rattle.std.specs.Prelude.{◌⊎◌}
 use Rattle.std.specs.List.{list_all}
-use Rattle.std.proofs.lemmas.Bool.{le-leb}
 use Rattle.sp_ids.specs.declared.ids.BlockId.{BlockId}
 use Rattle.sp_text.specs.Tokens.{tokens, is_name}
 use Rattle.ir_ast.specs.declared.types.Ty.{Ty}
@@ -41,7 +40,7 @@ use Rattle.ir_lines.specs.Statements.{stated}
 use Rattle.read_back.specs.Said.{word_of, value_says, instruction_says, operator_says, binary_says}
 use Rattle.read_back.proofs.Forms.{ReadsAs, binary_line, compare_line, load_line, store_line, jump_line, unreachable_line, return_void_line}
 use Rattle.read_back.proofs.FormsIn.{as_fit, ReadsIn, names_function, in_both, in_source}
-use Rattle.read_back.proofs.Operands.{HaveNames, block-named, IsNarrow, type_spelled, type_allowed, type_fits_in, value_spelled, value_in_limit}
+use Rattle.read_back.proofs.Operands.{HaveNames, block-named, IsNarrow, type_spelled, type_allowed, value_spelled}
 
 -- where a block stands behind an instruction
 abbrev pub place_after : Op → Place
@@ -116,9 +115,9 @@ binary_reads names have op o n bits a b is narrow a_is b_is a_fits b_fits text s
   form = forms.Binary op;
   items = name n ∷ width bits ∷ value (value_says names (tys.Int bits) a) ∷ value (value_says names (tys.Int bits) b) ∷ [];
   reads = rw text (rw (binary_shape names op o n bits a b)
-      (binary_line op n is bits narrow.1 (value_spelled names have (tys.Int bits) narrow a a_is a_fits) (value_spelled names have (tys.Int bits) narrow b b_is b_fits)));
+      (binary_line op n is bits narrow (value_spelled names have (tys.Int bits) narrow a a_is a_fits) (value_spelled names have (tys.Int bits) narrow b b_is b_fits)));
   says = say;
-  fits = rw (le-leb 1 bits narrow.0, le-leb bits 64 narrow.1, value_in_limit names (tys.Int bits) narrow a a_fits, value_in_limit names (tys.Int bits) narrow b b_fits) refl;
+  fits = refl;
   stands = rw inside refl;
   counts = refl;
   kept = refl;
@@ -161,7 +160,7 @@ compare_reads names have p n of_type a b is first narrow a_is b_is a_fits b_fits
   reads = rw (compare_shape names p n of_type a b) (compare_line p n is (type_spelled of_type first narrow) (type_allowed of_type first)
       (value_spelled names have of_type narrow a a_is a_fits) (value_spelled names have of_type narrow b b_is b_fits));
   says = refl;
-  fits = rw (type_fits_in of_type first narrow, value_in_limit names of_type narrow a a_fits, value_in_limit names of_type narrow b b_fits) refl;
+  fits = refl;
   stands = refl;
   counts = refl;
   kept = refl;
@@ -183,7 +182,7 @@ load_reads names have n of_type a is first narrow a_is a_fits = record {
   items = name n ∷ ty (word_of of_type) ∷ value (value_says names tys.Ptr a) ∷ [];
   reads = rw (load_shape names n of_type a) (load_line n is (type_spelled of_type first narrow) (type_allowed of_type first) (value_spelled names have tys.Ptr tt a a_is a_fits));
   says = refl;
-  fits = rw (type_fits_in of_type first narrow, value_in_limit names tys.Ptr tt a a_fits) refl;
+  fits = refl;
   stands = refl;
   counts = refl;
   kept = refl;
@@ -204,7 +203,7 @@ store_reads names have of_type a b first narrow a_is b_is a_fits b_fits = record
   reads = rw (store_shape names of_type a b) (store_line (type_spelled of_type first narrow) (type_allowed of_type first)
       (value_spelled names have of_type narrow a a_is a_fits) (value_spelled names have tys.Ptr tt b b_is b_fits));
   says = refl;
-  fits = rw (type_fits_in of_type first narrow, value_in_limit names of_type narrow a a_fits, value_in_limit names tys.Ptr tt b b_fits) refl;
+  fits = refl;
   stands = refl;
   counts = refl;
   kept = refl;

@@ -6,7 +6,6 @@ use Rattle.std.specs.Option.{option_map_or}
 use Rattle.std.specs.List.{All}
 use Rattle.std.proofs.lemmas.List.Elements.{All-head, All-tail}
 use Rattle.std.proofs.lemmas.Option.{slice_get_within}
-use Rattle.std.proofs.lemmas.Bool.{le-leb}
 use Rattle.sp_ids.specs.Numbers.{wrapped, signed}
 use Rattle.sp_text.specs.Tokens.{is_name}
 use Rattle.ir_ast.specs.declared.types.Ty.{Ty}
@@ -21,11 +20,10 @@ use Rattle.ir_printer.specs.Names.{Names, layout_name, function_name, block_name
 use Rattle.ir_printer.specs.Words.{type_text}
 use Rattle.ir_printer.specs.Operands.{value_text}
 use Rattle.line_tokens.specs.Families.{is_family_name}
-use Rattle.ir_reader.specs.Limits.{value_fits, literal_fits, type_fits}
 use Rattle.line_parts.specs.Parts.{is_value_type}
 use Rattle.line_parts.specs.Parts as values
-use Rattle.read_back.specs.Said.{word_of, value_says, integer_value, literal_of}
-use Rattle.read_back.proofs.Spellings.{SpellsType, SpellsValue, Spellable, signed-spellable, integer_type, pointer_type, integer_spelled, local_value, null_value}
+use Rattle.read_back.specs.Said.{word_of, value_says}
+use Rattle.read_back.proofs.Spellings.{SpellsType, SpellsValue, integer_type, pointer_type, integer_spelled, local_value, null_value}
 
 tested_at : {X : Type 0} (P : List ℕ → Bool) (result : Bool) (g : X → List ℕ) (xs : List X) → All (λ x. P (g x) ≡ result) xs → (k : ℕ) → k < length xs → P (option_map_or g (slice_get xs k) []) ≡ result
 tested_at P result g [] all k low = absurd (omega arith)
@@ -69,7 +67,7 @@ IsNarrow _ = Unit {0}
 
 pub type_spelled : (ty : Ty) → is_first_class ty ≡ true → IsNarrow ty → SpellsType (type_text ty) (word_of ty)
 type_spelled tys.Void first narrow = absurd cc
-type_spelled (tys.Int width) first narrow = integer_type width narrow.1
+type_spelled (tys.Int width) first narrow = integer_type width narrow
 type_spelled tys.Ptr first narrow = pointer_type
 type_spelled tys.Token first narrow = absurd cc
 
@@ -79,24 +77,7 @@ type_allowed (tys.Int width) first = refl
 type_allowed tys.Ptr first = refl
 type_allowed tys.Token first = cc
 
-pub type_fits_in : (ty : Ty) → is_first_class ty ≡ true → IsNarrow ty → type_fits (word_of ty) ≡ true
-type_fits_in tys.Void first narrow = cc
-type_fits_in (tys.Int width) first narrow = rw (le-leb 1 width narrow.0, le-leb width 64 narrow.1) refl
-type_fits_in tys.Ptr first narrow = refl
-type_fits_in tys.Token first narrow = cc
-
 -- ---- values
-
-pub spellable_fits : (z : ℤ) → Spellable z → literal_fits (literal_of z) ≡ true
-spellable_fits (pos n) small = refl
-spellable_fits (negsuc n) small = rw (le-leb (suc n) (2 ^ 63) small) refl
-
-integer_fits : (width number : ℕ) → width ≤ 64 → value_fits (integer_value width number) ≡ true
-integer_fits width number most = by (width == 1)
-  where
-    by : (bit : Bool) → value_fits (cond bit (values.truth (not (wrapped 1 number == 0))) (values.number (literal_of (signed width number)))) ≡ true
-    by true = refl
-    by false = spellable_fits (signed width number) (signed-spellable width number most)
 
 pub in_types : (names : Names) (v : ℕ) (ty : Ty) → slice_get (value_types names.func) v ≡ Some ty → v < length (definitions_of names.func)
 in_types names v ty is = rw (length-map (definitions_of names.func) definition_type) at (slice_get_within (value_types names.func) v ty is)
@@ -113,15 +94,3 @@ value_spelled names have ty narrow (operands.Int number) is fits = by ty fits.1 
     by tys.Token same narrow = absurd cc
 value_spelled names have ty narrow operands.Null is fits = null_value
 value_spelled names have ty narrow (operands.Fun f) is fits = absurd cc
-
-pub value_in_limit : (names : Names) (ty : Ty) → IsNarrow ty → (operand : Operand) → Fits (value_types names.func) operand ty → value_fits (value_says names ty operand) ≡ true
-value_in_limit names ty narrow (operands.Value v) fits = refl
-value_in_limit names ty narrow (operands.Int number) fits = by ty fits.1 narrow
-  where
-    by : (ty : Ty) → ty ≡ tys.Int fits.0 → IsNarrow ty → value_fits (value_says names ty (operands.Int number)) ≡ true
-    by (tys.Int width) same narrow = integer_fits width number narrow.1
-    by tys.Void same narrow = cc
-    by tys.Ptr same narrow = cc
-    by tys.Token same narrow = cc
-value_in_limit names ty narrow operands.Null fits = refl
-value_in_limit names ty narrow (operands.Fun f) fits = refl

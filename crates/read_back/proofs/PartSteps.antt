@@ -7,13 +7,13 @@ use Rattle.ir_ast.specs.declared.ops.Pred.{Pred}
 use Rattle.ir_ast.specs.declared.ops.Pred.TheVariants as preds
 use Rattle.line_parts.specs.declared.readings.TypeWord.{TypeWord}
 use Rattle.line_parts.specs.declared.readings.TypeWord.TheVariants as types
-use Rattle.line_parts.specs.Gives.{after, one_at}
-use Rattle.line_tokens.specs.Numbers.{positive_literal, literal_spelled}
+use Rattle.ir_ast.specs.Widths.{IsWidth}
+use Rattle.line_parts.specs.Gives.{after, one_at, one_noted_at}
 use Rattle.line_parts.specs.Parts.{Val, is_value_type, is_answer_type, is_managed, is_scalar_type, is_case_value, case_value_at, place_at, strategy_at}
 use Rattle.line_tokens.specs.Words.{pred_of, pred_word}
 use Rattle.line_forms.specs.Slots.{Item, width, ty, value, pred, scalar, place, strategy, Slot, a_managed, a_width, a_type, an_answer, a_value, a_case, a_pred, a_scalar, a_place, a_strategy, part, parse}
 use Rattle.read_back.proofs.Steps.{Reads, Stops, step, one, first_of, stops-kind, IsClean, digits-clean}
-use Rattle.read_back.proofs.Spellings.{SpellsType, SpellsValue, allowed, integer_says, width_spelled, decimal_token, decimal-digits, decimal-is, literal_digits, positive}
+use Rattle.read_back.proofs.Spellings.{SpellsType, SpellsValue, allowed, integer_says, integer_within, width_spelled, decimal_token, decimal-is, positive}
 
 -- ---- types
 
@@ -53,28 +53,28 @@ pub scalar_step : {f : List Slot} {text rest : List ℕ} {word : TypeWord} {firs
 scalar_step {text = text} {rest = rest} {word = word} t allow stop r =
     step a_scalar text (tok kinds.Word t.first) (t.more ++ tokens rest) (scalar word ∷ []) t.clean (t.spelled rest stop) (scalar_part t allow (tokens rest)) r
 
-width_part : (n : ℕ) → n ≤ 64 → (ts : List Tok) → part a_width (tok kinds.Word (105 ∷ decimal n) ∷ ts) ≡ Some (width n ∷ [], ts)
-unfolding part after one_at
-width_part n most ts = rw (integer_says n most) refl
+width_part : (n : ℕ) → IsWidth n → (ts : List Tok) → part a_width (tok kinds.Word (105 ∷ decimal n) ∷ ts) ≡ Some (width n ∷ [], ts)
+unfolding part after one_noted_at
+width_part n narrow ts = rw (integer_says n narrow) (rw (integer_within n narrow) refl)
 
-pub width_step : {f : List Slot} {rest : List ℕ} {first : Option Tok} {items : List Item} (n : ℕ) → n ≤ 64 → Stops rest
+pub width_step : {f : List Slot} {rest : List ℕ} {first : Option Tok} {items : List Item} (n : ℕ) → IsWidth n → Stops rest
     → Reads f rest first items → Reads (a_width ∷ f) (105 ∷ (decimal n ++ rest)) (Some (tok kinds.Word (105 ∷ decimal n))) (width n ∷ items)
-width_step {rest = rest} n most stop r =
-    step a_width (105 ∷ decimal n) (tok kinds.Word (105 ∷ decimal n)) (tokens rest) (width n ∷ []) (digits-clean (decimal n) (decimal-is n (omega arith)).digits) (width_spelled n most rest stop) (width_part n most (tokens rest)) r
+width_step {rest = rest} n narrow stop r =
+    step a_width (105 ∷ decimal n) (tok kinds.Word (105 ∷ decimal n)) (tokens rest) (width n ∷ []) (digits-clean (decimal n) (decimal-is n (omega (arith, narrow.1))).digits) (width_spelled n narrow.1 rest stop) (width_part n narrow (tokens rest)) r
 
 -- ---- values
 
 value_part : {text : List ℕ} {v : Val} (s : SpellsValue text v) → (ts : List Tok) → part a_value (tok s.kind text ∷ ts) ≡ Some (value v ∷ [], ts)
-unfolding part after one_at
-value_part s ts = rw s.says refl
+unfolding part after one_noted_at
+value_part s ts = rw s.says (rw s.within refl)
 
 pub value_step : {f : List Slot} {text rest : List ℕ} {v : Val} {first : Option Tok} {items : List Item} (s : SpellsValue text v) → Stops rest
     → Reads f rest first items → Reads (a_value ∷ f) (text ++ rest) (Some (tok s.kind text)) (value v ∷ items)
 value_step {text = text} {v = v} s stop r = one a_value s.kind text (value v ∷ []) s.is s.clean stop (value_part s) r
 
 case_part : {text : List ℕ} {v : Val} (s : SpellsValue text v) → is_case_value v ≡ true → (ts : List Tok) → part a_case (tok s.kind text ∷ ts) ≡ Some (value v ∷ [], ts)
-unfolding part after one_at case_value_at
-case_part s allow ts = rw s.says (rw allow refl)
+unfolding part after one_noted_at case_value_at
+case_part s allow ts = rw s.says (rw s.within (rw allow refl))
 
 pub case_step : {f : List Slot} {text rest : List ℕ} {v : Val} {first : Option Tok} {items : List Item} (s : SpellsValue text v) → is_case_value v ≡ true → Stops rest
     → Reads f rest first items → Reads (a_case ∷ f) (text ++ rest) (Some (tok s.kind text)) (value v ∷ items)
@@ -144,10 +144,8 @@ no_place {f} {items} r = record { whole = rw e (rw place_none_part (rw (rw e at 
     e = nothing_left (tokens []) r.begins
 
 place_part : (n : ℕ) → n < 2 ^ 64 → (ts : List Tok) → part a_place (tok kinds.Punct (codes ",") ∷ tok kinds.Word (codes "i32") ∷ tok kinds.Number (decimal n) ∷ ts) ≡ Some (place (Some (record { negative = false; magnitude = n })) ∷ [], ts)
-unfolding part after place_at one_at
-place_part n small ts =
-    let e : literal_spelled (decimal n) ≡ record { negative = false; magnitude = n } = literal_digits (decimal n) (decimal-digits n small) ∙ (ap positive_literal (decimal-is n small).number ∙ positive n small) in
-    rw e refl
+unfolding part after place_at one_at one_noted_at
+place_part n small ts = let e = positive n small in rw e.says (rw e.within refl)
 
 place_spelled : (n : ℕ) → n < 2 ^ 64 → (rest : List ℕ) → Stops rest → tokens (codes ", i32 " ++ (decimal n ++ rest)) ≡ tok kinds.Punct (codes ",") ∷ tok kinds.Word (codes "i32") ∷ tok kinds.Number (decimal n) ∷ tokens rest
 place_spelled n small rest stop =

@@ -185,7 +185,7 @@ step_reads names have (elements.Int w) bits None inst p =
     let widths = recursion_from_All IsWidth (w ∷ bits ∷ []) p.printed.own_widths in
     let scalar = scalar_width w None p.printed.line.1 in
     step_case names (elements.Int w) bits None inst p (λ a b fa fb.
-    integer_step_reads names have (result_of inst) w bits a b (p.named p.printed.line.0.result) widths.0.1 scalar.1 widths.1.0 fa.0 fb.0 fa.1 fb.1)
+    integer_step_reads names have (result_of inst) w bits a b (p.named p.printed.line.0.result) widths.0 scalar.1 widths.1.0 fa.0 fb.0 fa.1 fb.1)
 step_reads names have (elements.Int w) bits (Some n) inst p = absurd (let bad = (scalar_width w (Some n) p.printed.line.1).0 in cc)
 step_reads names have elements.Ptr bits None inst p =
     let widths = recursion_from_All IsWidth (bits ∷ []) p.printed.own_widths in

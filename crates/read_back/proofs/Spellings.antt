@@ -21,7 +21,8 @@ use Rattle.line_parts.specs.declared.readings.TypeWord.{TypeWord}
 use Rattle.line_parts.specs.declared.readings.TypeWord.TheVariants as types
 use Rattle.line_tokens.specs.declared.words.Flags.{Flags}
 use Rattle.line_tokens.specs.declared.words.Flags.TheVariants as flags
-use Rattle.line_tokens.specs.Numbers.{decimal_from, width_of, literal_spelled, positive_literal, negative_literal}
+use Rattle.line_tokens.specs.Numbers.{decimal_from, is_width, width_of, width_passes, number_spelled, is_literal, literal_spelled, literal_passes}
+use Rattle.ir_ast.specs.Widths.{IsWidth}
 use Rattle.line_parts.specs.Gives.{after, one_at}
 use Rattle.line_tokens.specs.Marks.{is_word}
 use Rattle.line_parts.specs.Drops.{past_group, past_one_of, flag_words, is_attribute_word, is_one_of, reserved}
@@ -125,12 +126,16 @@ integer_group ds digits ts =
     let no : is_attribute_word (105 ∷ ds) ≡ false = ap not (or_right (is_one_of reserved (105 ∷ ds)) (are_digits ds) digits) in
     rw no refl
 
-pub integer_says : (n : ℕ) → n ≤ 64 → width_of (tok kinds.Word (105 ∷ decimal n)) ≡ Some n
-integer_says n most =
-    let small : n < 2 ^ 64 = omega arith in
-    let number : decimal_from 0 (decimal n) ≡ n = (decimal-is n small).number in
-    let least : min n 65 ≡ n = omega arith in
-    rw (decimal-numeral n small) (rw number (rw least refl))
+narrow-width : (n : ℕ) → IsWidth n → is_width (decimal_from 0 (decimal n)) ≡ true
+narrow-width n narrow = rw ((decimal-is n (omega (arith, narrow.1))).number, le-leb 1 n narrow.0, le-leb n 64 narrow.1) refl
+
+pub integer_says : (n : ℕ) → IsWidth n → width_of (tok kinds.Word (105 ∷ decimal n)) ≡ Some n
+integer_says n narrow =
+    let small : n < 2 ^ 64 = omega (arith, narrow.1) in
+    rw (decimal-numeral n small) (rw (narrow-width n narrow) (rw (decimal-is n small).number refl))
+
+pub integer_within : (n : ℕ) → IsWidth n → width_passes (tok kinds.Word (105 ∷ decimal n)) ≡ false
+integer_within n narrow = rw (narrow-width n narrow) refl
 
 pub width_spelled : (n : ℕ) → n ≤ 64 → (rest : List ℕ) → Stops rest → tokens ((105 ∷ decimal n) ++ rest) ≡ tok kinds.Word (105 ∷ decimal n) ∷ tokens rest
 width_spelled n most rest stop = tokens-spelled kinds.Word (105 ∷ decimal n) rest (or_left _ _ (digits-in_word (decimal n) (decimal-is n (omega arith)).digits)) (stops-kind kinds.Word rest stop)
@@ -139,9 +144,9 @@ word_global : (word : List ℕ) (ts : List Tok) → first_global (tok kinds.Word
 unfolding first_global
 word_global word ts = refl
 
-pub integer_type : (n : ℕ) → n ≤ 64 → SpellsType (105 ∷ decimal n) (types.Int n)
+pub integer_type : (n : ℕ) → IsWidth n → SpellsType (105 ∷ decimal n) (types.Int n)
 unfolding spelled_type_at
-integer_type n most = record {
+integer_type n narrow = record {
   clean = digits-clean (decimal n) all;
   first = 105 ∷ decimal n;
   more = [];
@@ -154,7 +159,7 @@ integer_type n most = record {
 }
   where
     small : n < 2 ^ 64
-    small = omega arith
+    small = omega (arith, narrow.1)
 
     all : list_all is_ascii_digit (decimal n) ≡ true
     all = (decimal-is n small).digits
@@ -163,17 +168,17 @@ integer_type n most = record {
     digits = decimal-digits n small
 
     says : (ts : List Tok) → spelled_type_at (tok kinds.Word (105 ∷ decimal n) ∷ ts) ≡ Some (types.Int n, ts)
-    says ts = rw (integer_says n most) refl
+    says ts = rw (integer_says n narrow) (rw (integer_within n narrow) refl)
 
 -- the end of the name of a result of the type
-pub integer_suffix : (n : ℕ) (most : n ≤ 64) (ts : List Tok) → suffix_of (types.Int n) (tok kinds.Word (integer_type n most).first ∷ ts) ≡ 105 ∷ decimal n
+pub integer_suffix : (n : ℕ) (narrow : IsWidth n) (ts : List Tok) → suffix_of (types.Int n) (tok kinds.Word (integer_type n narrow).first ∷ ts) ≡ 105 ∷ decimal n
 unfolding integer_type
-integer_suffix n most ts = refl
+integer_suffix n narrow ts = refl
 
 -- and it is no token
-pub integer_other : (n : ℕ) (most : n ≤ 64) → is_word (codes "token") (tok kinds.Word (integer_type n most).first) ≡ false
+pub integer_other : (n : ℕ) (narrow : IsWidth n) → is_word (codes "token") (tok kinds.Word (integer_type n narrow).first) ≡ false
 unfolding integer_type
-integer_other n most = refl
+integer_other n narrow = refl
 
 pointer_spelled : (rest : List ℕ) → tokens (codes "ptr addrspace(1)" ++ rest) ≡ tok kinds.Word (codes "ptr") ∷ tok kinds.Word (codes "addrspace") ∷ tok kinds.Punct (codes "(") ∷ tok kinds.Number (codes "1") ∷ tok kinds.Punct (codes ")") ∷ tokens rest
 pointer_spelled rest =
@@ -262,21 +267,22 @@ pub record SpellsValue (text : List ℕ) (value : Val) : Type 0 where
   pub kind : Kind
   pub is : is_token kind text ≡ true
   pub says : value_of (tok kind text) ≡ Some value
+  pub within : literal_passes (tok kind text) ≡ false
   pub group : (ts : List Tok) → past_group (tok kind text ∷ ts) ≡ None
 
 pub local_value : (name : List ℕ) → is_name name ≡ true → SpellsValue (37 ∷ name) (values.local name)
-local_value name is = record { clean = name-clean name is; kind = kinds.Local; is = is; says = rw is refl; group = λ ts. refl }
+local_value name is = record { clean = name-clean name is; kind = kinds.Local; is = is; says = rw is refl; within = refl; group = λ ts. refl }
 
 pub null_value : SpellsValue (codes "null") values.null
-null_value = record { clean = refl; kind = kinds.Word; is = refl; says = refl; group = λ ts. refl }
+null_value = record { clean = refl; kind = kinds.Word; is = refl; says = refl; within = refl; group = λ ts. refl }
 
 pub true_value : SpellsValue (codes "true") (values.truth true)
-true_value = record { clean = refl; kind = kinds.Word; is = refl; says = refl; group = λ ts. refl }
+true_value = record { clean = refl; kind = kinds.Word; is = refl; says = refl; within = refl; group = λ ts. refl }
 
 pub false_value : SpellsValue (codes "false") (values.truth false)
-false_value = record { clean = refl; kind = kinds.Word; is = refl; says = refl; group = λ ts. refl }
+false_value = record { clean = refl; kind = kinds.Word; is = refl; says = refl; within = refl; group = λ ts. refl }
 
-pub literal_digits : (ds : List ℕ) → are_digits ds ≡ true → literal_spelled ds ≡ positive_literal (decimal_from 0 ds)
+literal_digits : (ds : List ℕ) → are_digits ds ≡ true → number_spelled ds ≡ record { negative = false; magnitude = decimal_from 0 ds }
 literal_digits [] digits = cc
 literal_digits (b ∷ bs) digits =
     let other : (b == 45) ≡ false = ne_eqb b 45 (λ e. omega (arith, high b (and_parts (is_ascii_digit b) (list_all is_ascii_digit bs) digits).0)) in
@@ -285,11 +291,25 @@ literal_digits (b ∷ bs) digits =
     high : (b : ℕ) → is_ascii_digit b ≡ true → 48 ≤ b
     high b digit = grind (arith, nat_tests)
 
-pub positive : (n : ℕ) → n < 2 ^ 64 → positive_literal n ≡ record { negative = false; magnitude = n }
-positive n small = rw (lt-ltb n (2 ^ 64) small) refl
+-- the text spells this literal
+pub record IsSpelling (text : List ℕ) (literal : Literal) : Type 0 where
+  pub says : literal_spelled text ≡ literal
+  pub within : literal_passes (tok kinds.Number text) ≡ false
 
-negative : (n : ℕ) → n ≤ 2 ^ 63 → negative_literal n ≡ record { negative = true; magnitude = n }
-negative n small = rw (le-leb n (2 ^ 63) small) refl
+spelling : (text : List ℕ) (literal : Literal) → number_spelled text ≡ literal → is_literal literal ≡ true → IsSpelling text literal
+spelling text literal is fits = record { says = rw is (rw fits refl); within = rw is (rw fits refl) }
+
+pub positive : (n : ℕ) → n < 2 ^ 64 → IsSpelling (decimal n) (record { negative = false; magnitude = n })
+positive n small =
+    spelling (decimal n) (record { negative = false; magnitude = n })
+    (literal_digits (decimal n) (decimal-digits n small) ∙ ap (λ (m : ℕ). record { negative = false; magnitude = m }) (decimal-is n small).number)
+    (le-leb n (2 ^ 64 - 1) (omega arith))
+
+negative : (n : ℕ) → n ≤ 2 ^ 63 → IsSpelling (45 ∷ decimal n) (record { negative = true; magnitude = n })
+negative n small =
+    spelling (45 ∷ decimal n) (record { negative = true; magnitude = n })
+    (ap (λ (m : ℕ). record { negative = true; magnitude = m }) (decimal-is n (omega arith)).number)
+    (le-leb n (2 ^ 63) small)
 
 -- from -2^63 to 2^64 - 1
 abbrev pub Spellable : ℤ → Type 0
@@ -303,24 +323,24 @@ decimal_token n small = or_left (are_digits (decimal n)) (first_then 45 are_digi
 pub record SpellsLiteral (text : List ℕ) (literal : Literal) : Type 0 where
   pub clean : IsClean text
   pub is : is_token kinds.Number text ≡ true
-  pub says : literal_spelled text ≡ literal
+  pub spelling : IsSpelling text literal
 
 pub literal_token : (z : ℤ) → Spellable z → SpellsLiteral (signed_decimal z) (literal_of z)
 literal_token (pos n) small = record {
   clean = digits-clean (decimal n) (decimal-is n small).digits;
   is = or_left (are_digits (decimal n)) (first_then 45 are_digits (decimal n)) (decimal-digits n small);
-  says = literal_digits (decimal n) (decimal-digits n small) ∙ (ap positive_literal (decimal-is n small).number ∙ positive n small);
+  spelling = positive n small;
 }
 literal_token (negsuc n) small = record {
   clean = digits-clean (decimal (suc n)) (decimal-is (suc n) (omega arith)).digits;
   is = or_right (are_digits (45 ∷ decimal (suc n))) (are_digits (decimal (suc n))) (decimal-digits (suc n) (omega arith));
-  says = ap negative_literal (decimal-is (suc n) (omega arith)).number ∙ negative (suc n) small;
+  spelling = negative (suc n) small;
 }
 
 pub number_value : (z : ℤ) → Spellable z → SpellsValue (signed_decimal z) (values.number (literal_of z))
 number_value z small =
     let literal = literal_token z small in
-    record { clean = literal.clean; kind = kinds.Number; is = literal.is; says = ap (λ l. Some (values.number l)) literal.says; group = λ ts. refl }
+    record { clean = literal.clean; kind = kinds.Number; is = literal.is; says = ap (λ l. Some (values.number l)) literal.spelling.says; within = literal.spelling.within; group = λ ts. refl }
 
 below_zero : (a b : ℕ) → a < b → 2 * a + 1 ≤ 2 * b → b ≤ 2 * a → b ≤ 2 ^ 64 → Spellable (pos a -ℤ pos b)
 below_zero a zero less odd half small = absurd (omega arith)

@@ -1,6 +1,5 @@
 -- Steps of addresses on their lines.
 use Rattle.std.proofs.Common.{◌≡◌, refl, ℕ, ◌<◌, ◌≤◌, ◌^◌, true, false, List, [], ◌∷◌, ◌++◌, length, Some, None, codes, decimal, append_assoc, append-nil, inl}
-use Rattle.std.proofs.lemmas.Bool.{le-leb}
 use Rattle.sp_text.specs.Tokens.{is_name}
 use Rattle.ir_ast.specs.declared.types.Ty.TheVariants as tys
 use Rattle.ir_ast.specs.declared.ops.Operand.{Operand}
@@ -20,7 +19,7 @@ use Rattle.line_forms.specs.Slots as parts
 use Rattle.read_back.specs.Said.{value_says}
 use Rattle.read_back.proofs.Spellings.{integer_type, pointer_type}
 use Rattle.read_back.proofs.Forms.{scalar_line, layout_line, field_line}
-use Rattle.read_back.proofs.Operands.{HaveNames, layout-named, value_spelled, value_in_limit}
+use Rattle.read_back.proofs.Operands.{HaveNames, layout-named, value_spelled}
 use Rattle.read_back.proofs.OneLine.{OneLine, made}
 
 step_shape : (names : Names) (elem : Elem) (n : List ℕ) (bits : ℕ) (a b : Operand)
@@ -29,16 +28,16 @@ step_shape : (names : Names) (elem : Elem) (n : List ℕ) (bits : ℕ) (a b : Op
 step_shape names elem n bits a b = simp (append_assoc, append-nil)
 
 -- `%x = getelementptr iM, P V, iN V`
-pub integer_step_reads : (names : Names) → HaveNames names → (n : List ℕ) (of_width bits : ℕ) (a b : Operand) → is_name n ≡ true → of_width ≤ 64 → is_scalar_type (types.Int of_width) ≡ true → (1 ≤ bits) × (bits ≤ 64)
+pub integer_step_reads : (names : Names) → HaveNames names → (n : List ℕ) (of_width bits : ℕ) (a b : Operand) → is_name n ≡ true → (1 ≤ of_width) × (of_width ≤ 64) → is_scalar_type (types.Int of_width) ≡ true → (1 ≤ bits) × (bits ≤ 64)
     → is_value a ≡ true → is_value b ≡ true → Fits (value_types names.func) a tys.Ptr → Fits (value_types names.func) b (tys.Int bits)
     → OneLine names (made (Some n) (ast.Gep (elements.Int of_width) bits None) tys.Ptr (a ∷ b ∷ []) [])
 integer_step_reads names have n of_width bits a b is most scalar narrow a_is b_is a_fits b_fits = record {
   form = forms.ScalarElement;
   items = parts.name n ∷ parts.scalar (types.Int of_width) ∷ parts.value (value_says names tys.Ptr a) ∷ parts.width bits ∷ parts.value (value_says names (tys.Int bits) b) ∷ [];
-  reads = rw (step_shape names (elements.Int of_width) n bits a b) (scalar_line n is (integer_type of_width most) scalar bits narrow.1
+  reads = rw (step_shape names (elements.Int of_width) n bits a b) (scalar_line n is (integer_type of_width most) scalar bits narrow
       (value_spelled names have tys.Ptr tt a a_is a_fits) (value_spelled names have (tys.Int bits) narrow b b_is b_fits));
   says = refl;
-  fits = rw (value_in_limit names tys.Ptr tt a a_fits, le-leb 1 bits narrow.0, le-leb bits 64 narrow.1, value_in_limit names (tys.Int bits) narrow b b_fits) refl;
+  fits = refl;
   stands = refl;
   counts = refl;
   kept = refl;
@@ -52,10 +51,10 @@ pub pointer_step_reads : (names : Names) → HaveNames names → (n : List ℕ) 
 pointer_step_reads names have n bits a b is narrow a_is b_is a_fits b_fits = record {
   form = forms.ScalarElement;
   items = parts.name n ∷ parts.scalar types.Managed ∷ parts.value (value_says names tys.Ptr a) ∷ parts.width bits ∷ parts.value (value_says names (tys.Int bits) b) ∷ [];
-  reads = rw (step_shape names elements.Ptr n bits a b) (scalar_line n is pointer_type refl bits narrow.1
+  reads = rw (step_shape names elements.Ptr n bits a b) (scalar_line n is pointer_type refl bits narrow
       (value_spelled names have tys.Ptr tt a a_is a_fits) (value_spelled names have (tys.Int bits) narrow b b_is b_fits));
   says = refl;
-  fits = rw (value_in_limit names tys.Ptr tt a a_fits, le-leb 1 bits narrow.0, le-leb bits 64 narrow.1, value_in_limit names (tys.Int bits) narrow b b_fits) refl;
+  fits = refl;
   stands = refl;
   counts = refl;
   kept = refl;
@@ -69,10 +68,10 @@ pub layout_step_reads : (names : Names) → HaveNames names → (n : List ℕ) (
 layout_step_reads names have n layout bits a b is low narrow a_is b_is a_fits b_fits = record {
   form = forms.LayoutElement;
   items = parts.name n ∷ parts.layout (layout_name names.layouts layout) ∷ parts.value (value_says names tys.Ptr a) ∷ parts.width bits ∷ parts.value (value_says names (tys.Int bits) b) ∷ parts.place None ∷ [];
-  reads = rw (step_shape names (elements.Layout layout) n bits a b) (layout_line n is (layout_name names.layouts layout) (layout-named names have layout low) bits narrow.1
+  reads = rw (step_shape names (elements.Layout layout) n bits a b) (layout_line n is (layout_name names.layouts layout) (layout-named names have layout low) bits narrow
       (value_spelled names have tys.Ptr tt a a_is a_fits) (value_spelled names have (tys.Int bits) narrow b b_is b_fits));
   says = refl;
-  fits = rw (value_in_limit names tys.Ptr tt a a_fits, le-leb 1 bits narrow.0, le-leb bits 64 narrow.1, value_in_limit names (tys.Int bits) narrow b b_fits) refl;
+  fits = refl;
   stands = refl;
   counts = refl;
   kept = refl;
@@ -91,10 +90,10 @@ pub field_step_reads : (names : Names) → HaveNames names → (n : List ℕ) (l
 field_step_reads names have n layout bits field a b is low narrow small a_is b_is a_fits b_fits = record {
   form = forms.LayoutElement;
   items = parts.name n ∷ parts.layout (layout_name names.layouts layout) ∷ parts.value (value_says names tys.Ptr a) ∷ parts.width bits ∷ parts.value (value_says names (tys.Int bits) b) ∷ parts.place (Some (record { negative = false; magnitude = field })) ∷ [];
-  reads = rw (field_shape names layout n bits field a b) (field_line n is (layout_name names.layouts layout) (layout-named names have layout low) bits narrow.1
+  reads = rw (field_shape names layout n bits field a b) (field_line n is (layout_name names.layouts layout) (layout-named names have layout low) bits narrow
       (value_spelled names have tys.Ptr tt a a_is a_fits) (value_spelled names have (tys.Int bits) narrow b b_is b_fits) field small);
   says = refl;
-  fits = rw (value_in_limit names tys.Ptr tt a a_fits, le-leb 1 bits narrow.0, le-leb bits 64 narrow.1, value_in_limit names (tys.Int bits) narrow b b_fits) refl;
+  fits = refl;
   stands = refl;
   counts = refl;
   kept = refl;

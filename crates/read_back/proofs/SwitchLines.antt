@@ -2,7 +2,6 @@
 use Rattle.std.proofs.Common.{◌≡◌, refl, ap, subst, ◌∙◌, ℕ, ◌≤◌, Bool, true, false, cond, List, [], ◌∷◌, ◌++◌, map, Some, None, codes, decimal, append_assoc}
 use Rattle.std.specs.Prelude.{◌==◌, not}
 use Rattle.std.specs.List.{AllByRecursion, list_all, zip}
-use Rattle.std.proofs.lemmas.Bool.{le-leb}
 use Rattle.sp_ids.specs.declared.ids.BlockId.{BlockId}
 use Rattle.sp_ids.specs.Numbers.{wrapped, signed}
 use Rattle.sp_text.specs.Tokens.{tokens}
@@ -39,7 +38,7 @@ use Rattle.read_back.proofs.Steps.{IsClean}
 use Rattle.read_back.proofs.Forms.{ReadsAs, switch_line, case_line, switch_end_line}
 use Rattle.read_back.proofs.FormsIn.{ReadsIn, names_function, in_both}
 use Rattle.read_back.proofs.LinesRead.{Says, says-nil, says-both, says-line, formed_in, ends_none-clean}
-use Rattle.read_back.proofs.Operands.{HaveNames, block-named, value_spelled, value_in_limit}
+use Rattle.read_back.proofs.Operands.{HaveNames, block-named, value_spelled}
 use Rattle.read_back.proofs.OneLine.{made}
 use Rattle.read_back.proofs.CallLines.{EntryFits}
 use Rattle.read_back.proofs.Chains.{joined-cons, indented, InstSays}
@@ -99,12 +98,12 @@ case_read of names have bits narrow c same room e fits =
     let l : List ℕ = block_name names.func e.1.0 in
     let text : List ℕ = 105 ∷ (decimal bits ++ (32 ∷ (value_text names (tys.Int bits) e.0 ++ (codes ", label %" ++ l)))) in
     let items : List parts.Item = parts.width bits ∷ parts.value (value_says names (tys.Int bits) e.0) ∷ parts.name l ∷ [] in
-    let reads : ReadsAs text forms.Case items = case_line bits narrow.1 value (case_value names bits e.0 fits.literal) l (block-named names have e.1.0 fit.low) in
+    let reads : ReadsAs text forms.Case items = case_line bits narrow value (case_value names bits e.0 fits.literal) l (block-named names have e.1.0 fit.low) in
     let next : next_state (at_cases of c) places.Cases (of_form forms.Case items) ≡ at_cases of c = ap (at_cases of) same in
     let line : Says (at_cases of c) ((32 ∷ 32 ∷ 32 ∷ 32 ∷ text) ++ (10 ∷ [])) (next_state (at_cases of c) places.Cases (of_form forms.Case items)) (case_says names (tys.Int bits) e ∷ []) =
     inner_line (at_cases of c) (32 ∷ 32 ∷ 32 ∷ 32 ∷ text) text forms.Case places.Cases items reads refl
     (indented (32 ∷ 32 ∷ text) ∙ indented text) reads.clean refl refl refl
-    (rw (le-leb 1 bits narrow.0, le-leb bits 64 narrow.1, value_in_limit names (tys.Int bits) narrow e.0 fit.fits) refl) (ap counts_fit same ∙ room) in
+    refl (ap counts_fit same ∙ room) in
     rw (case_shape names bits e.0 e.1) (subst (λ (s : State). Says (at_cases of c) ((32 ∷ 32 ∷ 32 ∷ 32 ∷ text) ++ (10 ∷ [])) s (case_says names (tys.Int bits) e ∷ [])) next line)
 
 cases_read : (of : TextForm) (names : Names) → HaveNames names → (bits : ℕ) → (1 ≤ bits) × (bits ≤ 64) → (c : Counts) → IsStill of c → counts_fit c ≡ true → (es : List (Operand × BlockId)) → AllByRecursion (CaseFits names (tys.Int bits)) es
@@ -135,7 +134,7 @@ switch_says_so of names have bits o os l ls narrow first all s formed inside roo
     let target : List ℕ = block_name names.func l.0 in
     let text : List ℕ = codes "switch i" ++ (decimal bits ++ (32 ∷ (value_text names (tys.Int bits) o ++ (codes ", label %" ++ (target ++ codes " ["))))) in
     let items : List parts.Item = parts.width bits ∷ parts.value (value_says names (tys.Int bits) o) ∷ parts.name target ∷ [] in
-    let reads : ReadsAs text forms.Switch items = switch_line bits narrow.1 value target (block-named names have l.0 first.low) in
+    let reads : ReadsAs text forms.Switch items = switch_line bits narrow value target (block-named names have l.0 first.low) in
     let c : Counts = counted (counted_in s.form kinds.Instruction) s.counts in
     let same : IsStill s.form c = still s.form s.counts in
     let ends : State = record { form = s.form; place = places.Closed; counts = c } in
@@ -145,5 +144,5 @@ switch_says_so of names have bits o os l ls narrow first all s formed inside roo
     (inner_line (at_cases s.form c) (32 ∷ 32 ∷ 93 ∷ []) (codes "]") forms.SwitchEnd places.Closed [] switch_end_line refl (indented (93 ∷ [])) refl refl refl refl refl (ap counts_fit same ∙ room)) in
     rw (switch_shape names bits o os l ls)
     (says-both {t = at_cases s.form c} (inner_line s (32 ∷ 32 ∷ text) text forms.Switch places.Cases items reads refl (indented text) reads.clean (rw inside refl) (rw inside refl) refl
-    (rw (le-leb 1 bits narrow.0, le-leb bits 64 narrow.1, value_in_limit names (tys.Int bits) narrow o first.fits) refl) room)
+    refl room)
     (says-both (cases_read s.form names have bits narrow c same room (zip os ls) all) last))

@@ -98,6 +98,15 @@ front_of bs = longest_front (length bs) bs
 pub data Tok : Type 0 where
   tok : Kind → List ℕ → Tok
   bad : Tok
+  -- a reader's note, behind all tokens that are left: a width or number on the way here passed its limit
+  over : Tok
+
+-- the tokens that are left, with the note
+unfoldable pub note : List Tok → List Tok
+note [] = over ∷ []
+note (over ∷ ts) = over ∷ ts
+note (bad ∷ ts) = bad ∷ ts
+note (tok kind bytes ∷ ts) = tok kind bytes ∷ note ts
 
 -- the front as a token, and the tokens after it
 abbrev pub front_and_more : Option (Kind × ℕ) → List ℕ → (ℕ → List Tok) → List Tok

@@ -1,4 +1,4 @@
-use Rattle.std.proofs.Common.{length}
+use Rattle.line_parts.proofs.Notes.{count}
 use Rattle.std.specs.Prelude.{map}
 use Rattle.line_parts.specs.Lists.{comma}
 use Rattle.line_parts.specs.Groups.{live_entry_at}
@@ -10,4 +10,4 @@ abbrev pub invariant-loop-live : goal.invariant-loop-live
 invariant-loop-live l = Reached live_entry_at comma l.initial.cursor (map seen_value l.live.items) l.cursor
 
 abbrev pub decreases-loop-live : goal.decreases-loop-live
-decreases-loop-live l = length l.cursor
+decreases-loop-live l = count l.cursor

@@ -1,4 +1,4 @@
-use Rattle.std.proofs.Common.{length}
+use Rattle.line_parts.proofs.Notes.{count}
 use Rattle.std.specs.Prelude.{true, map}
 use Rattle.line_parts.specs.Lists.{passed_at}
 use Rattle.line_parts.specs.Groups.{begins_argument}
@@ -10,4 +10,4 @@ abbrev pub invariant-loop-all : goal.invariant-loop-all
 invariant-loop-all l = Reached (passed_at true) begins_argument l.initial.cursor (map seen_passed l.all.items) l.cursor
 
 abbrev pub decreases-loop-all : goal.decreases-loop-all
-decreases-loop-all l = length l.cursor
+decreases-loop-all l = count l.cursor

@@ -1,4 +1,4 @@
-use Rattle.std.proofs.Common.{length}
+use Rattle.line_parts.proofs.Notes.{count}
 use Rattle.line_parts.specs.Lists.{comma, is_argument_type}
 use Rattle.std.specs.Prelude.{true}
 use Rattle.line_parts.specs.Parts.{allowed_type_at}
@@ -9,4 +9,4 @@ abbrev pub invariant-loop-parameters : goal.invariant-loop-parameters
 invariant-loop-parameters l = Reached (allowed_type_at (is_argument_type true)) comma l.initial.cursor l.parameters.items l.cursor
 
 abbrev pub decreases-loop-parameters : goal.decreases-loop-parameters
-decreases-loop-parameters l = length l.cursor
+decreases-loop-parameters l = count l.cursor

@@ -1,4 +1,4 @@
-use Rattle.std.proofs.Common.{length}
+use Rattle.line_parts.proofs.Notes.{count}
 use Rattle.std.specs.Prelude.{map}
 use Rattle.line_parts.specs.Lists.{comma, argument_at}
 use Rattle.line_parts.specs.Seen.{seen_argument}
@@ -9,4 +9,4 @@ abbrev pub invariant-loop-arguments : goal.invariant-loop-arguments
 invariant-loop-arguments l = Reached (argument_at l.plain) comma l.initial.self (map seen_argument l.arguments.items) l.self
 
 abbrev pub decreases-loop-arguments : goal.decreases-loop-arguments
-decreases-loop-arguments l = length l.self
+decreases-loop-arguments l = count l.self

@@ -1,4 +1,4 @@
-use Rattle.std.proofs.Common.{length}
+use Rattle.line_parts.proofs.Notes.{count}
 use Rattle.line_parts.specs.Lists.{comma}
 use Rattle.line_parts.specs.Parts.{allowed_type_at, is_value_type}
 use Rattle.line_parts.proofs.Listing.{Reached}
@@ -8,4 +8,4 @@ abbrev pub invariant-loop-fields : goal.invariant-loop-fields
 invariant-loop-fields l = Reached (allowed_type_at is_value_type) comma l.initial.self l.fields.items l.self
 
 abbrev pub decreases-loop-fields : goal.decreases-loop-fields
-decreases-loop-fields l = length l.self
+decreases-loop-fields l = count l.self
