@@ -26,9 +26,11 @@ pub fn reading_fits(reading: &Reading) -> bool
         Reading::Layout { name, fields } => {
             name_fits(name.bytes) && fields.len() <= FIELDS as usize
         }
-        Reading::Define { name, arguments, .. } => {
-            name_fits(name.bytes) && arguments.len() <= ARGUMENTS as usize
-        }
+        Reading::Define {
+            name,
+            arguments,
+            ..
+        } => { name_fits(name.bytes) && arguments.len() <= ARGUMENTS as usize }
         Reading::Statepoint { live, .. } => live.len() <= LIVE_ENTRIES as usize,
         _ => true,
     }

@@ -31,11 +31,7 @@ impl Place {
 }
 
 // A line that is dropped, if it passes no limit.
-fn dropped(
-    _which: DroppedLine,
-    _answer: Option<TypeWord>,
-    passed: bool,
-) -> Result<(), LineFault>
+fn dropped(_which: DroppedLine, _answer: Option<TypeWord>, passed: bool) -> Result<(), LineFault>
     ensures ok { OnOk result (dropped_within (of_form (Form.Dropped _which) (dropped_says _which _answer)) passed ≡ nothing) }
     ensures fault { IfErr result (λ fault. IsFaultOf fault (dropped_within (of_form (Form.Dropped _which) (dropped_says _which _answer)) passed)) }
 {
