@@ -30,7 +30,7 @@ pub fn typed(alloc: Global, raw: Raw) -> Result<Module, TypeFault>
     ensures no_bundle { IfOk result (λ whole. All HasNoBundle whole.content.funcs) }
     ensures formed { IfOk result (λ whole. IsFormedModule whole.content) }
 {
-    checked(alloc, &raw)
+    checked(alloc, raw)
 }
 
 /// The target module that the readings of a text in the rewritten form stand for, likewise, or the first of its faults.
@@ -42,17 +42,18 @@ pub fn typed_rewritten(alloc: Global, raw: Raw) -> Result<Module, TypeFault>
     ensures no_bundle { IfOk result (λ whole. All HasNoBundle whole.content.funcs) }
     ensures formed { IfOk result (λ whole. IsFormedModule whole.content) }
 {
-    checked(alloc, &raw)
+    checked(alloc, raw)
 }
 
 // The module of readings in their form, or the first fault: the text is resolved, and the module that came of it is verified.
-fn checked(alloc: Global, raw: &Raw) -> Result<Module, TypeFault>
-    ensures answers { Answers raw.now.form (seen_lines raw.now.lines) result }
-    ensures module { IfOk result (λ whole. IsModuleOf raw.now.form whole.content) }
+fn checked(alloc: Global, raw: Raw) -> Result<Module, TypeFault>
+    ensures answers { Answers raw.entry.form (seen_lines raw.entry.lines) result }
+    ensures module { IfOk result (λ whole. IsModuleOf raw.entry.form whole.content) }
     ensures text { IfOk result (λ whole. All IsTextFunction whole.content.funcs) }
     ensures formed { IfOk result (λ whole. IsFormedModule whole.content) }
 {
-    let text = resolve(alloc, raw.form(), raw.lines())?;
+    let form = raw.form();
+    let text = resolve(alloc, form, raw.into_lines())?;
     match first_broken(alloc, &text.whole, text.cases.as_slice(), text.fault)? {
         Some(fault) => Err(TypeFault::Fault(fault)),
         None => with_paths(alloc, text.whole),

@@ -6,7 +6,7 @@ ghost use Rattle.ir_ast.specs.Formed.{IsFormedModule};
 
 use ir_ast::{Form, Module};
 use ir_printer::print;
-use ir_reader::{Raw, ReadFault, read, read_rewritten};
+use ir_reader::{Raw, ReadFault, Woven, read, read_rewritten};
 use ir_types::{Fault, TypeFault, typed, typed_rewritten};
 use sp_ids::Memory;
 use std::alloc::Global;
@@ -79,13 +79,22 @@ pub(crate) fn outcome_of(
 
 fn of_readings(alloc: Global, raw: Raw, step: Step) -> Result<Outcome, Memory> {
     if let Step::Reading = step {
-        return Ok(Outcome::Readings(raw.lines().len()));
+        return Ok(Outcome::Readings(count_of(raw.into_lines())));
     }
     match typed_in(alloc, raw) {
         Ok(program) => of_module(alloc, &program, step),
         Err(TypeFault::Fault(fault)) => Ok(Outcome::Fault(fault)),
         Err(TypeFault::Memory) => Err(Memory),
     }
+}
+
+fn count_of(lines: Woven) -> usize {
+    let (outer, bodies) = lines.into_parts();
+    let mut count = outer.len();
+    for body in &bodies {
+        count = count.saturating_add(body.len());
+    }
+    count
 }
 
 // Types readings in the form that they were read in.

@@ -8,3 +8,5 @@ pub mod BlockContents
 pub mod Heads
 pub mod ScopeLemmas
 pub mod TextUnion
+pub mod PartLemmas
+pub mod PartedFunctions

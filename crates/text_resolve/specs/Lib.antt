@@ -1,4 +1,5 @@
 pub mod TopFaults
 pub mod Rows
 pub mod Lost
+pub mod Parts
 pub mod Built

@@ -1,6 +1,6 @@
 //! The functions of a resolved text.
 
-ghost use Rattle.std.specs.Prelude.{◌≡◌, [], ◌++◌, map, flat_map, IfOk, OnOk, List};
+ghost use Rattle.std.specs.Prelude.{◌≡◌, [], ◌∷◌, ◌++◌, map, flat_map, length, IfOk, OnOk, List};
 ghost use Rattle.std.specs.List.{All};
 ghost use Rattle.ir_ast.specs.Blocks.{EndsAtTerminator};
 ghost use Rattle.line_parts.specs.Seen.{seen_argument};
@@ -17,6 +17,7 @@ ghost use Rattle.module_build.specs.Lost.{tables_in};
 ghost use Rattle.module_build.specs.Placed.{IsPlacedFunction};
 ghost use Rattle.text_resolve.specs.Built.{FunctionsLost};
 ghost use Rattle.text_resolve.specs.Lost.{LinesLost, BlocksLost, FunctionLost};
+ghost use Rattle.text_resolve.specs.Parts.{headed, parted};
 ghost use Rattle.text_resolve.specs.Rows.{rows_of};
 
 use crate::bodies::note_body;
@@ -25,7 +26,7 @@ use ir_ast::{Block, Form, Func, Inst};
 use ir_lines::best::First;
 use ir_lines::operands::type_of;
 use ir_lines::scope::{Local, Top};
-use ir_lines::sections::{BlockLines, Definition, HeadNames, blocks};
+use ir_lines::sections::{BlockLines, Definition, HeadNames, blocks, definition_with};
 use ir_reader::{NumberedReading, Reading};
 use module_build::build::owned;
 use module_build::heads::arguments_of;
@@ -174,31 +175,90 @@ fn resolve_function(
     Ok(Built { func, cases })
 }
 
-/// Adds the functions of definitions behind others, and the lines of their cases behind those of the others; notes what
-/// resolving them loses.
-pub(crate) fn resolve_functions(
+// Adds the function of a definition behind others, and the lines of its cases behind those of the others; notes what
+// resolving it loses.
+fn add_function(
     alloc: Global,
     form: Form,
     top: &Top,
-    funcs: &[Definition],
+    func: &Definition,
     made: &mut Vec<Func>,
     cases: &mut Vec<CaseLines>,
     first: &mut First,
 ) -> Result<(), AllocError>
-    requires { All (λ func. IsPlacedFunction (known_with top.now func) func) (map seen_definition funcs.now) }
-    ensures funcs { OnOk result (made.new.items ≡ made.old.items
-        ++ map (λ func. lined_function (known_with top.now func) func) (map seen_definition funcs.now)) }
-    ensures cases { OnOk result (cases.new.items ≡ cases.old.items ++ map (λ func. rows_of func.body) (map seen_definition funcs.now)) }
-    ensures noted { (lines : List Line) → IsTop lines top.now
-        → OnOk result (Notes first.old.found first.new.found (FunctionsLost form lines (map seen_definition funcs.now))) }
+    requires { let own = seen_definition func.now in IsPlacedFunction (known_with top.now own) own }
+    ensures funcs { let own = seen_definition func.now in
+        OnOk result (made.new.items ≡ made.old.items ++ lined_function (known_with top.now own) own ∷ []) }
+    ensures cases { OnOk result (cases.new.items ≡ cases.old.items ++ rows_of (seen_definition func.now).body ∷ []) }
+    ensures noted { (lines : List Line) → IsTop lines top.now → OnOk result (Notes first.old.found first.new.found
+        (FunctionLost form (scope_of lines (seen_definition func.now)) (seen_definition func.now))) }
 {
-    for func in funcs {
-        let Built {
-            func: built,
-            cases: rows,
-        } = resolve_function(alloc, form, top, func, first)?;
-        made.push(built)?;
-        cases.push(rows)?;
+    let Built {
+        func: built,
+        cases: rows,
+    } = resolve_function(alloc, form, top, func, first)?;
+    made.push(built)?;
+    cases.push(rows)?;
+    Ok(())
+}
+
+// The same, where this line is the head of a definition that has this body; else nothing.
+fn add_line<'t, 'a>(
+    alloc: Global,
+    form: Form,
+    top: &Top,
+    line: &'t NumberedReading<'a>,
+    body: &'t [NumberedReading<'a>],
+    made: &mut Vec<Func>,
+    cases: &mut Vec<CaseLines>,
+    first: &mut First,
+) -> Result<(), AllocError>
+    requires { All (λ func. IsPlacedFunction (known_with top.now func) func) (headed line.now (seen_lines body.now)) }
+    ensures funcs { OnOk result (made.new.items ≡ made.old.items
+        ++ map (λ func. lined_function (known_with top.now func) func) (headed line.now (seen_lines body.now))) }
+    ensures cases { OnOk result (cases.new.items ≡ cases.old.items ++ map (λ func. rows_of func.body) (headed line.now (seen_lines body.now))) }
+    ensures noted { (lines : List Line) → IsTop lines top.now
+        → OnOk result (Notes first.old.found first.new.found (FunctionsLost form lines (headed line.now (seen_lines body.now)))) }
+{
+    match definition_with(line, body) {
+        Some(func) => add_function(alloc, form, top, &func, made, cases, first),
+        None => Ok(()),
+    }
+}
+
+/// Adds the functions of the definitions whose heads are among these lines, which have these bodies, and the lines of
+/// their cases behind those of the others; notes what resolving them loses. A body is let go with its function.
+pub(crate) fn resolve_functions<'a>(
+    alloc: Global,
+    form: Form,
+    top: &Top,
+    outer: &[NumberedReading<'a>],
+    bodies: Vec<Vec<NumberedReading<'a>>>,
+    made: &mut Vec<Func>,
+    cases: &mut Vec<CaseLines>,
+    first: &mut First,
+) -> Result<(), AllocError>
+    requires bodies { length bodies.items ≡ length outer.now }
+    requires placed { All (λ func. IsPlacedFunction (known_with top.now func) func) (parted outer.now bodies.items) }
+    ensures funcs { OnOk result (made.new.items ≡ made.old.items
+        ++ map (λ func. lined_function (known_with top.now func) func) (parted outer.now bodies.entry.items)) }
+    ensures cases { OnOk result (cases.new.items ≡ cases.old.items ++ map (λ func. rows_of func.body) (parted outer.now bodies.entry.items)) }
+    ensures noted { (lines : List Line) → IsTop lines top.now
+        → OnOk result (Notes first.old.found first.new.found (FunctionsLost form lines (parted outer.now bodies.entry.items))) }
+{
+    let mut place = 0;
+    for body in bodies {
+        add_line(
+            alloc,
+            form,
+            top,
+            &outer[place],
+            body.as_slice(),
+            made,
+            cases,
+            first,
+        )?;
+        place += 1;
     }
     Ok(())
 }

@@ -5,7 +5,7 @@ ghost use Rattle.ir_lines.specs.Notes.{Notes};
 ghost use Rattle.ir_lines.specs.Views.{seen_lines};
 ghost use Rattle.ir_resolve.specs.Resolved.{resolved};
 ghost use Rattle.ir_resolve.specs.TextFaults.{HasTextFault};
-ghost use Rattle.module_build.specs.Placed.{IsPlaced};
+ghost use Rattle.ir_lines.specs.TextLines.{IsTextLines};
 
 use crate::functions::resolve_functions;
 use crate::tops::note_lines;
@@ -14,8 +14,7 @@ use ir_ast::{Form, Module};
 use ir_lines::best::First;
 use ir_lines::faults::Fault;
 use ir_lines::scope::Top;
-use ir_lines::sections::definitions;
-use ir_reader::NumberedReading;
+use ir_reader::Woven;
 use module_build::heads::layouts_of;
 use sp_ids::Memory;
 use std::alloc::Global;
@@ -31,25 +30,28 @@ pub struct Resolution {
     pub fault: Option<Fault>,
 }
 
-/// Resolves the lines of a text in this form, which stand in their places.
-pub fn resolve(alloc: Global, form: Form, lines: &[NumberedReading]) -> Result<Resolution, Memory>
-    requires { IsPlaced (seen_lines lines.now) }
-    ensures whole { IfOk result (λ text. text.whole ≡ (resolved form (seen_lines lines.now)).whole) }
-    ensures cases { IfOk result (λ text. text.cases.items ≡ (resolved form (seen_lines lines.now)).cases) }
-    ensures fault { IfOk result (λ text. Notes None text.fault (λ line code. HasTextFault form (seen_lines lines.now) line code)) }
+/// Resolves the lines of a text in this form. The lines of a body are let go as soon as its function stands.
+pub fn resolve(alloc: Global, form: Form, lines: Woven) -> Result<Resolution, Memory>
+    requires { IsTextLines form (seen_lines lines) }
+    ensures whole { IfOk result (λ text. text.whole ≡ (resolved form (seen_lines lines.entry)).whole) }
+    ensures cases { IfOk result (λ text. text.cases.items ≡ (resolved form (seen_lines lines.entry)).cases) }
+    ensures fault { IfOk result (λ text. Notes None text.fault (λ line code. HasTextFault form (seen_lines lines.entry) line code)) }
 {
+    let (outer, bodies) = lines.into_parts();
+    let outer_lines = outer.as_slice();
     let mut first = First::NONE;
-    let top = Top::of(alloc, lines, &mut first)?;
-    note_lines(&top, form, lines, &mut first);
-    let layouts = layouts_of(alloc, lines)?;
-    let found = definitions(alloc, lines)?;
-    let mut funcs = Vec::with_capacity(alloc, found.len())?;
-    let mut cases = Vec::with_capacity(alloc, found.len())?;
+    let top = Top::of(alloc, outer_lines, &mut first)?;
+    note_lines(&top, form, outer_lines, &mut first);
+    let layouts = layouts_of(alloc, outer_lines)?;
+    let count = top.functions.list().len();
+    let mut funcs = Vec::with_capacity(alloc, count)?;
+    let mut cases = Vec::with_capacity(alloc, count)?;
     resolve_functions(
         alloc,
         form,
         &top,
-        found.as_slice(),
+        outer_lines,
+        bodies,
         &mut funcs,
         &mut cases,
         &mut first,
