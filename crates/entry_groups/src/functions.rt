@@ -8,7 +8,7 @@ ghost use Rattle.entry_groups.specs.Entry.{waits_at_entry};
 
 use crate::blocks::all_blocks;
 use crate::numbers::behind_group;
-use crate::waits::waits_at_entry;
+use crate::waits::{may_wait_at_entry, waits_at_entry};
 use ir_ast::{Block, Func};
 use ir_cfg::Cfg;
 use sp_ids::Memory;
@@ -24,9 +24,11 @@ pub fn rebuild(alloc: Global, marked: Marked) -> Result<Func, Memory>
     ensures content { IfOk result (λ func. func.content ≡ rewritten marked.before marked.table) }
     ensures zeros { IfOk result (λ func. func.lines ≡ zeros_of func.content) }
 {
-    let cfg = Cfg::of(alloc, marked.func())?;
-    if waits_at_entry(marked.func(), marked.groups(), &cfg) {
-        return with_entry_group(alloc, marked);
+    if may_wait_at_entry(marked.func(), marked.groups()) {
+        let cfg = Cfg::of(alloc, marked.func())?;
+        if waits_at_entry(marked.func(), marked.groups(), &cfg) {
+            return with_entry_group(alloc, marked);
+        }
     }
     ssa_rebuild::rebuild(alloc, marked)
 }

@@ -12,6 +12,26 @@ use ir_cfg::Cfg;
 use sp_ids::BlockId;
 use statepoint_insert::{Group, Relocate};
 
+/// Whether it is worth a look at the edges: there is one group, and it keeps nothing or there are fewer edges than blocks.
+pub(crate) fn may_wait_at_entry(func: &Func, groups: &[Group]) -> bool {
+    groups.len() == 1 && (relocates_none(groups) || has_few_edges(func.blocks()))
+}
+
+fn has_few_edges(blocks: &[Block]) -> bool {
+    let mut edges = 0_usize;
+    for block in blocks {
+        edges = edges.saturating_add(edge_count(block.insts()));
+    }
+    edges < blocks.len()
+}
+
+fn edge_count(insts: &[Inst]) -> usize {
+    match insts.last() {
+        None => 0,
+        Some(inst) => inst.labels().len(),
+    }
+}
+
 /// Whether the only group is that of the first line, it relocates arguments alone, and each of these keeps one version behind it.
 pub(crate) fn waits_at_entry(func: &Func, groups: &[Group], cfg: &Cfg) -> bool
     requires { cfg.now ≡ graph_of func.now.content }
