@@ -287,13 +287,13 @@ label_at_leads place name None = tt
 label_at_leads place name (Some to) = label_leads place to name
 
 labelled_leads : (text : TextForm) (place : Place) (bytes : List ℕ) (name : Option (List ℕ)) → LeadsTo place (placed_labelled text place bytes name)
-labelled_leads text place bytes None = chosen_leads place (is_nil (tokens bytes)) _ (by_form_leads place (tokens bytes) (form_in text (tokens bytes)))
+labelled_leads text place bytes None = chosen_leads place (is_nil (tokens bytes)) (placed_by_form place (tokens bytes) (form_in text (tokens bytes))) (by_form_leads place (tokens bytes) (form_in text (tokens bytes)))
 labelled_leads text place bytes (Some name) = label_at_leads place name (behind_label place)
 
 leads : (text : TextForm) (place next : Place) (bytes : List ℕ) (what : Said) (passed : Bool) → placed text place bytes ≡ says what passed next → Leads place what next
 unfolding placed
 leads text place next bytes what passed is =
-    subst (λ (p : Placed). LeadsTo place p) is (chosen_leads place (is_top place && is_metadata bytes) _ (labelled_leads text place bytes (label_of bytes)))
+    subst (λ (p : Placed). LeadsTo place p) is (chosen_leads place (is_top place && is_metadata bytes) (placed_labelled text place bytes (label_of bytes)) (labelled_leads text place bytes (label_of bytes)))
 
 -- ---- the text
 
@@ -409,12 +409,12 @@ over_limit_by s found what false q front number r quantities misfits =
 
 -- a line that fits has no note
 unnoted : (what : Said) (passed : Bool) (next : Place) (p : Placed) → p ≡ says what passed next → line_fits what passed ≡ true → (p ≡ says what false next) × (said_fits what ≡ true)
-unnoted what true next p is fits = absurd cc
+unnoted what true next p is fits = absurd (let wrong : false ≡ true = fits in cc)
 unnoted what false next p is fits = (is, fits)
 
 and_false : (b c : Bool) → b ≡ false → (b && c) ≡ false
 and_false false c e = refl
-and_false true c e = absurd cc
+and_false true c e = absurd (let wrong : true ≡ false = e in cc)
 
 at_line : (lines : List NumberedLine) (l : NumberedLine) (ls : List NumberedLine) → Rest lines ls → Rest lines (l ∷ ls)
 unfolding Rest readings
