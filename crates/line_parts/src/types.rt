@@ -136,9 +136,10 @@ impl<'t, 'a> Cursor<'t, 'a> {
     {
         match self.spelled_type()? {
             TypeWord::Managed => Ok(TypeWord::Managed),
-            TypeWord::Int(bits) => {
+            TypeWord::Int(width) => {
+                let bits = width.bits();
                 if bits == 8 || bits == 16 || bits == 32 || bits == 64 {
-                    Ok(TypeWord::Int(bits))
+                    Ok(TypeWord::Int(width))
                 } else {
                     Err(Stop::NoReading)
                 }
