@@ -6,9 +6,9 @@ ghost use Rattle.statepoint_insert.specs.Marked.{marked_of};
 ghost use Rattle.rewrite_passes.specs.Before.{CanHaveGroups, rewritten_of};
 
 use crate::before::Before;
+use entry_groups::rebuild;
 use ir_ast::Func;
 use sp_ids::Memory;
-use ssa_rebuild::rebuild;
 use statepoint_insert::{Marked, insert};
 use std::alloc::Global;
 

@@ -1,0 +1,182 @@
+//! The lines of a block behind the group, and those of the entry.
+
+ghost use Rattle.std.specs.Prelude.{◌≡◌, ◌++◌, [], true, false, map, slice_index, IfOk};
+ghost use Rattle.ir_ast.specs.Ops.{is_terminator};
+ghost use Rattle.entry_groups.specs.Entry.{put, put_line, group_values, first_lines, entry_lines, goes_on};
+
+use ir_ast::{Inst, Op, Operand, Ty};
+use smallvec::SmallVec;
+use sp_ids::{Memory, ValueId};
+use statepoint_insert::{Call, Counts, Group, push_group};
+use std::alloc::Global;
+use std::mem;
+
+// Gives lines these numbers, where they stand.
+fn put_all(alloc: Global, row: &[u32], lines: &mut [Inst])
+    ensures { lines.new ≡ map (put_line row.now) lines.old }
+{
+    for inst in lines.iter_mut() {
+        put_line(alloc, row, inst);
+    }
+}
+
+/// The lines with these numbers.
+pub(crate) fn with_numbers(alloc: Global, row: &[u32], mut lines: Vec<Inst>) -> Vec<Inst>
+    ensures { result.items ≡ map (put_line row.now) lines.items }
+{
+    put_all(alloc, row, lines.as_mut_slice());
+    lines
+}
+
+fn put_line(alloc: Global, row: &[u32], inst: &mut Inst)
+    ensures { inst.new ≡ put_line row.now inst.old }
+{
+    if inst.bundle().is_empty() {
+        put_operands(row, inst);
+    } else {
+        let old = mem::replace(inst, no_line(alloc));
+        *inst = with_bundle(row, old);
+    }
+}
+
+fn put_operands(row: &[u32], inst: &mut Inst)
+    requires { inst.old.bundle ≡ [] }
+    ensures { inst.new ≡ put_line row.now inst.old }
+{
+    put_each(row, inst.operands_mut());
+}
+
+fn no_line(alloc: Global) -> Inst {
+    Inst::of(
+        None,
+        Op::Unreachable,
+        Ty::Void,
+        SmallVec::new(alloc),
+        SmallVec::new(alloc),
+        Vec::new(alloc),
+    )
+}
+
+fn with_bundle(row: &[u32], inst: Inst) -> Inst
+    ensures { result ≡ put_line row.now inst }
+{
+    let (named, op, ty, mut operands, labels, mut bundle) = inst.into_parts();
+    put_each(row, operands.as_mut_slice());
+    put_entries(row, bundle.as_mut_slice());
+    Inst::of(named, op, ty, operands, labels, bundle)
+}
+
+fn put_each(row: &[u32], operands: &mut [Operand])
+    ensures { operands.new ≡ map (put row.now) operands.old }
+{
+    for operand in operands.iter_mut() {
+        *operand = put(row, *operand);
+    }
+}
+
+fn put_entries(row: &[u32], entries: &mut [(Ty, Operand)])
+    ensures { entries.new ≡ map (λ entry. (entry.0, put row.now entry.1)) entries.old }
+{
+    for entry in entries.iter_mut() {
+        *entry = (entry.0, put(row, entry.1));
+    }
+}
+
+fn put(row: &[u32], operand: Operand) -> Operand
+    ensures { result ≡ put row.now operand }
+{
+    match operand {
+        Operand::Value(value) => Operand::Value(ValueId(number_at(row, value.0 as usize))),
+        Operand::Int(word) => Operand::Int(word),
+        Operand::Null => Operand::Null,
+        Operand::Fun(func) => Operand::Fun(func),
+    }
+}
+
+fn number_at(row: &[u32], place: usize) -> u32
+    ensures { result ≡ slice_index row.now place }
+{
+    row.get(place).copied().unwrap_or(0)
+}
+
+/// The lines of the entry, with its group in place of its first line.
+pub(crate) fn entry_lines(
+    alloc: Global,
+    token: u32,
+    group: &Group,
+    row: &[u32],
+    mut insts: Vec<Inst>,
+) -> Result<Vec<Inst>, Memory>
+    ensures lines { IfOk result (λ lines. lines.items ≡ entry_lines token group.now row.now insts.items) }
+    ensures goes_on { IfOk result (λ _. goes_on insts.items ≡ true) }
+{
+    if insts.is_empty() {
+        return Err(Memory);
+    }
+    let first = insts.remove(0);
+    put_all(alloc, row, insts.as_mut_slice());
+    let room = insts.len().saturating_add(group.relocates().len());
+    let mut lines = Vec::with_capacity(alloc, room.saturating_add(1))?;
+    push_first(alloc, token, group, first, &mut lines)?;
+    lines.append(&mut insts)?;
+    Ok(lines)
+}
+
+fn push_first(
+    alloc: Global,
+    token: u32,
+    group: &Group,
+    first: Inst,
+    lines: &mut Vec<Inst>,
+) -> Result<(), Memory>
+    ensures lines { IfOk result (λ _. lines.new.items ≡ lines.old.items ++ first_lines token group.now first first.op) }
+    ensures goes_on { IfOk result (λ _. is_terminator first.op ≡ false) }
+{
+    if group.relocates().len() >= 1 << 30 {
+        return Err(Memory);
+    }
+    let live = values(alloc, group)?;
+    let (named, op, ty, operands, _labels, bundle) = first.into_parts();
+    match op {
+        Op::Call { callee, types } => {
+            let call = Call {
+                named,
+                callee,
+                types,
+                ty,
+                operands,
+                bundle,
+            };
+            push_group(
+                alloc,
+                call,
+                group,
+                live.as_slice(),
+                token,
+                no_counts(),
+                lines,
+            )
+        }
+        _ => Err(Memory),
+    }
+}
+
+fn no_counts() -> Counts
+    ensures { result ≡ record { tokens = 0; relocates = 0 } }
+{
+    Counts {
+        tokens: 0,
+        relocates: 0,
+    }
+}
+
+fn values(alloc: Global, group: &Group) -> Result<Vec<u32>, Memory>
+    ensures { IfOk result (λ values. values.items ≡ group_values group.now) }
+{
+    let relocates = group.relocates();
+    let mut values = Vec::with_capacity(alloc, relocates.len())?;
+    for relocate in relocates {
+        values.push(relocate.value.0)?;
+    }
+    Ok(values)
+}
