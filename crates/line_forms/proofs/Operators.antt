@@ -2,7 +2,7 @@
 use Rattle.std.proofs.Common.{◌≡◌, refl, ℕ, Bool, true, false, List, [], ◌∷◌, drop}
 use Rattle.std.specs.Prelude.{codes, Option, Some, None}
 use Rattle.std.specs.Str.{bytes_eq}
-use Rattle.sp_text.specs.Tokens.{Tok, tok}
+use Rattle.sp_text.specs.Tokens.{Tok, tok, bad, over}
 use Rattle.sp_text.specs.declared.tokens.Kind.TheVariants as kinds
 use Rattle.line_forms.specs.declared.forms.Form.{Form}
 use Rattle.line_forms.specs.declared.forms.Form.TheVariants as forms
@@ -27,8 +27,10 @@ behind_slots : (form : Form) (also : List ℕ) (f : List Slot) (word x n : List 
     → Some n ≡ local_of (tok kinds.Local x) → parse f ts ≡ found → ((said : List Item) → agree form said ≡ true) → slots form ≡ operator_slots also f → is_mark (codes "=") equals ≡ true → bytes_eq word also ≡ true
     → line_at form (operator_tokens x equals word ts) ≡ behind_operator form n ts
 unfolding line_at fit parse part after one_at
-behind_slots form also f word x n equals ts None named e alike is mark same = rw (is, ← named, mark, same, e) refl
-behind_slots form also f word x n equals ts (Some (items, end)) named e alike is mark same = rw (is, ← named, mark, same, e, alike (name n ∷ items)) refl
+behind_slots form also f word x n over ts found named e alike is mark same = absurd (let wrong : false ≡ true = mark in cc)
+behind_slots form also f word x n bad ts found named e alike is mark same = absurd (let wrong : false ≡ true = mark in cc)
+behind_slots form also f word x n (tok kind bytes) ts None named e alike is mark same = rw (is, ← named, mark, same, e) refl
+behind_slots form also f word x n (tok kind bytes) ts (Some (items, end)) named e alike is mark same = rw (is, ← named, mark, same, e, alike (name n ∷ items)) refl
 
 abbrev operands : Form → List Slot
 operands form = drop 5 (slots form)
