@@ -6,7 +6,7 @@ ghost use Rattle.ir_lines.specs.Types.{same_type, is_cell, is_within};
 
 use crate::operands::type_of;
 use ir_ast::Cell;
-use ir_reader::{Literal, TypeWord, Width};
+use ir_reader::{Literal, TypeWord};
 use sp_ids::wrap;
 
 // Whether the number is below 2^`width`.
@@ -84,7 +84,7 @@ pub fn same_type(one: TypeWord, other: TypeWord) -> bool
     }
 }
 
-fn has_width(ty: TypeWord, width: Width) -> bool
+fn has_width(ty: TypeWord, width: u32) -> bool
     ensures { result ≡ same_type (TypeWord.Int width) ty }
 {
     match ty {

@@ -16,7 +16,7 @@ pub fn type_of(ty: TypeWord) -> Ty
 {
     match ty {
         TypeWord::Void | TypeWord::Plain => Ty::Void,
-        TypeWord::Int(width) => Ty::Int(width.bits()),
+        TypeWord::Int(width) => Ty::Int(width),
         TypeWord::Managed => Ty::Ptr,
     }
 }
@@ -26,7 +26,7 @@ pub fn element_of(ty: TypeWord) -> Elem
     ensures { result ≡ element_of ty }
 {
     match ty {
-        TypeWord::Int(width) => Elem::Int(width.bits()),
+        TypeWord::Int(width) => Elem::Int(width),
         TypeWord::Managed | TypeWord::Void | TypeWord::Plain => Elem::Ptr,
     }
 }
@@ -86,7 +86,7 @@ fn width_of(ty: TypeWord) -> u32
     ensures { result ≡ width_of ty }
 {
     match ty {
-        TypeWord::Int(width) => width.bits(),
+        TypeWord::Int(width) => width,
         TypeWord::Managed | TypeWord::Void | TypeWord::Plain => 64,
     }
 }

@@ -4,7 +4,7 @@ ghost use Rattle.std.specs.Prelude.{◌≡◌, option_map};
 ghost use Rattle.ir_lines.specs.Parts.{gives};
 ghost use Rattle.ir_lines.specs.Views.{said};
 
-use ir_reader::{Reading, TypeWord, Width};
+use ir_reader::{Reading, TypeWord};
 
 /// The type of a statepoint's result, a token; no other value has the type word `void`.
 pub const TOKEN: TypeWord = TypeWord::Void;
@@ -15,7 +15,7 @@ pub fn given<'a>(reading: &Reading<'a>) -> Option<(&'a [u8], TypeWord)>
 {
     match reading {
         Reading::Binary { result, width, .. } => Some((result.bytes, TypeWord::Int(*width))),
-        Reading::Compare { result, .. } => Some((result.bytes, TypeWord::Int(Width::of(1)))),
+        Reading::Compare { result, .. } => Some((result.bytes, TypeWord::Int(1))),
         Reading::Convert { result, to, .. } => Some((result.bytes, TypeWord::Int(*to))),
         Reading::Select {
             result,

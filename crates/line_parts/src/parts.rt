@@ -15,8 +15,7 @@ use crate::cursor::Cursor;
 use crate::faults::Stop;
 use crate::readings::{TypeWord, Value};
 use line_tokens::{
-    Limited, Literal, Width, global, is_mark, is_text, is_word, literal, literal_in, local, quoted,
-    width,
+    Limited, Literal, global, is_mark, is_text, is_word, literal, literal_in, local, quoted, width,
 };
 use sp_text::{Kind, Name, Token};
 
@@ -144,7 +143,7 @@ impl<'t, 'a> Cursor<'t, 'a> {
 
     /// The width of an `iN`.
     #[tactic(auto, unfolding(crate::specs::Gives::one_noted_at))]
-    pub fn width(&mut self) -> Result<Width, Stop>
+    pub fn width(&mut self) -> Result<u32, Stop>
         ensures { Gives (λ n. n) result self.new (width_at self.old) }
     {
         let Some(token) = self.token() else {

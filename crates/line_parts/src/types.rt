@@ -136,10 +136,9 @@ impl<'t, 'a> Cursor<'t, 'a> {
     {
         match self.spelled_type()? {
             TypeWord::Managed => Ok(TypeWord::Managed),
-            TypeWord::Int(width) => {
-                let bits = width.bits();
+            TypeWord::Int(bits) => {
                 if bits == 8 || bits == 16 || bits == 32 || bits == 64 {
-                    Ok(TypeWord::Int(width))
+                    Ok(TypeWord::Int(bits))
                 } else {
                     Err(Stop::NoReading)
                 }

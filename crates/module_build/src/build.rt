@@ -25,7 +25,7 @@ use ir_lines::parts::TOKEN;
 use ir_lines::scope::Local;
 use ir_reader::{
     Binary, Conversion, Entry, Literal, NumberedReading, Passed, Reading, StatepointCall, TypeWord,
-    Value, Width,
+    Value,
 };
 use smallvec::SmallVec;
 use sp_ids::{BlockId, FuncId};
@@ -111,7 +111,7 @@ fn binary(
     alloc: Global,
     name: &[u8],
     op: Binary,
-    width: Width,
+    width: u32,
     left: &Value,
     right: &Value,
     insts: &mut Vec<Inst>,
@@ -165,9 +165,9 @@ fn convert(
     alloc: Global,
     name: &[u8],
     op: Conversion,
-    width: Width,
+    width: u32,
     value: &Value,
-    to: Width,
+    to: u32,
     insts: &mut Vec<Inst>,
     lost: &mut Lost,
 ) -> Result<(), AllocError>
@@ -180,7 +180,7 @@ fn convert(
     push_inst(
         alloc,
         Some(name),
-        conversion_of(op, to.bits()),
+        conversion_of(op, to),
         type_of(ty),
         &operands,
         &[],
@@ -207,7 +207,7 @@ fn select(
         ((seen_value condition.now, TypeWord.Int 1) ∷ (seen_value left.now, left_ty) ∷ (seen_value right.now, right_ty) ∷ [])) }
 {
     let operands = [
-        operand(local, TypeWord::Int(Width::of(1)), condition, lost),
+        operand(local, TypeWord::Int(1), condition, lost),
         operand(local, left_ty, left, lost),
         operand(local, right_ty, right, lost),
     ];
@@ -229,7 +229,7 @@ fn step(
     name: &[u8],
     op: Op,
     address: &Value,
-    width: Width,
+    width: u32,
     index: &Value,
     insts: &mut Vec<Inst>,
     lost: &mut Lost,
@@ -251,7 +251,7 @@ fn scalar_step(
     name: &[u8],
     element: TypeWord,
     address: &Value,
-    width: Width,
+    width: u32,
     index: &Value,
     insts: &mut Vec<Inst>,
     lost: &mut Lost,
@@ -262,7 +262,7 @@ fn scalar_step(
 {
     let op = Op::Gep {
         elem: element_of(element),
-        index_width: width.bits(),
+        index_width: width,
         place: None,
     };
     step(local, alloc, name, op, address, width, index, insts, lost)
@@ -370,7 +370,7 @@ fn branch(
     ensures lost { lost.new ≡ after_named local.now.blocks (on_true.now ∷ on_false.now ∷ [])
         (after_uses local.now.values lost.old ((seen_value condition.now, TypeWord.Int 1) ∷ [])) }
 {
-    let operands = [operand(local, TypeWord::Int(Width::of(1)), condition, lost)];
+    let operands = [operand(local, TypeWord::Int(1), condition, lost)];
     let labels = [label(local, on_true, lost), label(local, on_false, lost)];
     push_inst(
         alloc,
@@ -439,7 +439,7 @@ fn gc_relocate(
         ∷ operand_in local.now.values (TypeWord.Int 32) (values.number derived) ∷ []) []) ∷ []) }
     ensures lost { lost.new ≡ after_uses local.now.values lost.old (token_use token.entry.bytes.now ∷ index_use base ∷ index_use derived ∷ []) }
 {
-    let index = TypeWord::Int(Width::of(32));
+    let index = TypeWord::Int(32);
     let operands = [
         operand(local, TOKEN, &Value::Local(token), lost),
         operand(local, index, &Value::Number(base), lost),
@@ -460,7 +460,7 @@ fn gc_relocate(
 fn switch(
     local: &Local,
     alloc: Global,
-    width: Width,
+    width: u32,
     value: &Value,
     default: &[u8],
     behind: &[NumberedReading],
@@ -491,7 +491,7 @@ fn switch(
 }
 
 // A case of a `switch`, which is no instruction by itself.
-fn case(local: &Local, width: Width, value: &Value, to: &[u8], lost: &mut Lost)
+fn case(local: &Local, width: u32, value: &Value, to: &[u8], lost: &mut Lost)
     ensures { lost.new ≡ after_named local.now.blocks (to.now ∷ []) (after_uses local.now.values lost.old ((seen_value value.now, TypeWord.Int width) ∷ [])) }
 {
     operand(local, TypeWord::Int(width), value, lost);
@@ -611,7 +611,7 @@ impl Scope<'_, '_, '_, '_> {
         layout: &[u8],
         place: Option<Literal>,
         address: &Value,
-        width: Width,
+        width: u32,
         index: &Value,
         insts: &mut Vec<Inst>,
         lost: &mut Lost,
@@ -628,7 +628,7 @@ impl Scope<'_, '_, '_, '_> {
         ];
         let op = Op::Gep {
             elem: Elem::Layout(self.layout(layout, lost)),
-            index_width: width.bits(),
+            index_width: width,
             place: place_if_any(place),
         };
         lost.misspelled = is_below_zero(place) || lost.misspelled;

@@ -8,7 +8,7 @@ ghost use Rattle.ir_resolve.specs.TextFaults.{is_below_zero};
 
 use ir_lines::literals::{is_within, same_type};
 use ir_lines::scope::Local;
-use ir_reader::{Literal, TypeWord, Value, Width};
+use ir_reader::{Literal, TypeWord, Value};
 
 fn type_fits(ty: TypeWord, given: Option<TypeWord>) -> bool
     ensures { result ≡ type_fits ty given }
@@ -24,7 +24,7 @@ pub(crate) fn literal_fits(ty: TypeWord, literal: Literal) -> bool
     ensures { result ≡ literal_fits ty literal }
 {
     match ty {
-        TypeWord::Int(width) => is_within(width.bits(), literal),
+        TypeWord::Int(width) => is_within(width, literal),
         _ => false,
     }
 }
@@ -42,7 +42,7 @@ pub(crate) fn fits(local: &Local, ty: TypeWord, value: &Value) -> bool
     match value {
         Value::Local(name) => type_fits(ty, local.type_of(name.bytes)),
         Value::Number(literal) => literal_fits(ty, *literal),
-        Value::Truth(_) => same_type(ty, TypeWord::Int(Width::of(1))),
+        Value::Truth(_) => same_type(ty, TypeWord::Int(1)),
         Value::Null => takes_null(ty),
     }
 }

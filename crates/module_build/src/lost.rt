@@ -11,7 +11,7 @@ use ir_ast::Operand;
 use ir_lines::literals::same_type;
 use ir_lines::names::number_of;
 use ir_lines::scope::Local;
-use ir_reader::{TypeWord, Value, Width};
+use ir_reader::{TypeWord, Value};
 use sp_ids::{BlockId, ValueId};
 
 /// What a line loses by its parts.
@@ -56,7 +56,7 @@ pub(crate) fn operand(local: &Local, ty: TypeWord, value: &Value, lost: &mut Los
             local.operand(ty, value)
         }
         Value::Truth(_) => {
-            lost.misspelled = !same_type(ty, TypeWord::Int(Width::of(1))) || lost.misspelled;
+            lost.misspelled = !same_type(ty, TypeWord::Int(1)) || lost.misspelled;
             local.operand(ty, value)
         }
         Value::Null => Operand::Null,

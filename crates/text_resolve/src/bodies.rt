@@ -11,11 +11,11 @@ ghost use Rattle.text_resolve.specs.Rows.{row_said, rows_of};
 
 use case_lines::CaseLines;
 use ir_lines::best::First;
-use ir_reader::{NumberedReading, Reading, Width};
+use ir_reader::{NumberedReading, Reading};
 use module_build::lines::{behind, is_instruction};
 use std::alloc::{AllocError, Global};
 
-fn is_other(width: Width, other: Width) -> bool
+fn is_other(width: u32, other: u32) -> bool
     ensures { IsTrue result ↔ (other ≢ width) }
 {
     other != width
@@ -23,7 +23,7 @@ fn is_other(width: Width, other: Width) -> bool
 
 // Adds the lines of the cases that stand first behind a `switch` of this width, and notes those of another width.
 fn note_cases(
-    width: Width,
+    width: u32,
     behind: &[NumberedReading],
     row: &mut Vec<u32>,
     first: &mut First,
@@ -48,7 +48,7 @@ fn note_cases(
 // Adds the lines of the cases of a `switch` of this width, and notes those of another width.
 fn note_switch(
     alloc: Global,
-    width: Width,
+    width: u32,
     behind: &[NumberedReading],
     cases: &mut CaseLines,
     first: &mut First,

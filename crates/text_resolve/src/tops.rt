@@ -20,7 +20,7 @@ use ir_lines::best::First;
 use ir_lines::literals::is_cell;
 use ir_lines::names::is_text;
 use ir_lines::scope::Top;
-use ir_reader::{Argument, NumberedReading, Reading, TypeWord, Width};
+use ir_reader::{Argument, NumberedReading, Reading, TypeWord};
 use module_build::calls::has_types;
 
 const STRATEGY: &[u8] = b"statepoint-example";
@@ -126,7 +126,7 @@ fn has_gc_new(name: &[u8]) -> bool
 fn is_gc_new(answer: TypeWord, parameters: &[Argument]) -> bool
     ensures { result ≡ (same_type answer TypeWord.Managed && same_types (types_of (map seen_argument parameters.now)) (TypeWord.Int 64 ∷ [])) }
 {
-    answer == TypeWord::Managed && has_types(parameters, &[TypeWord::Int(Width::of(64))])
+    answer == TypeWord::Managed && has_types(parameters, &[TypeWord::Int(64)])
 }
 
 // Whether it is one of the externals whose names are whole, with its answer and its parameters.
@@ -148,13 +148,13 @@ fn is_own_basic(name: &[u8], answer: TypeWord, parameters: &[Argument]) -> bool
         parameters,
         b"print_i64",
         TypeWord::Void,
-        &[TypeWord::Int(Width::of(64))],
+        &[TypeWord::Int(64)],
     ) || is_same(
         name,
         answer,
         parameters,
         b"read_i64",
-        TypeWord::Int(Width::of(64)),
+        TypeWord::Int(64),
         &[],
     ) || is_same(
         name,
@@ -182,17 +182,13 @@ fn is_own_helper(name: &[u8], answer: TypeWord, parameters: &[Argument]) -> bool
         parameters,
         b"gc_check",
         TypeWord::Void,
-        &[
-            TypeWord::Managed,
-            TypeWord::Managed,
-            TypeWord::Int(Width::of(64)),
-        ],
+        &[TypeWord::Managed, TypeWord::Managed, TypeWord::Int(64)],
     ) || is_same(
         name,
         answer,
         parameters,
         b"gc_same",
-        TypeWord::Int(Width::of(1)),
+        TypeWord::Int(1),
         &[
             TypeWord::Managed,
             TypeWord::Managed,
