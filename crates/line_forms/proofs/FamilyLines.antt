@@ -259,7 +259,9 @@ first_named (Some n) more ts found rest e = ap (λ (n : List ℕ). Some n) (said
 global_first : (ts : List Tok) (found : List ℕ) (rest : List Tok) → global_at ts ≡ Some (found, rest) → first_global ts ≡ Some found
 unfolding one_at first_global
 global_first [] found rest e = absurd cc
-global_first (t ∷ ts) found rest e = first_named (global_of t) (first_global ts) ts found rest e
+global_first (over ∷ ts) found rest e = absurd cc
+global_first (bad ∷ ts) found rest e = absurd cc
+global_first (tok kind bytes ∷ ts) found rest e = first_named (global_of (tok kind bytes)) (first_global ts) ts found rest e
 
 chosen_is : (b : Bool) (ts rest : List Tok) (x : Unit {0}) → with_rest ts (cond b (Some tt) None) ≡ Some (x, rest) → b ≡ true
 chosen_is true ts rest x e = refl
@@ -272,7 +274,10 @@ this_named (Some n) more text e = ap (λ (n : List ℕ). Some n) ((bytes_eq-Deci
 function_first : (text : List ℕ) (ts : List Tok) (x : Unit {0}) (rest : List Tok) → one_at (stands (is_global text)) ts ≡ Some (x, rest) → first_global ts ≡ Some text
 unfolding one_at first_global
 function_first text [] x rest e = absurd cc
-function_first text (t ∷ ts) x rest e = this_named (global_of t) (first_global ts) text (chosen_is (is_global text t) ts rest x e)
+function_first text (over ∷ ts) x rest e = absurd cc
+function_first text (bad ∷ ts) x rest e = absurd cc
+function_first text (tok kind bytes ∷ ts) x rest e =
+    this_named (global_of (tok kind bytes)) (first_global ts) text (chosen_is (is_global text (tok kind bytes)) ts rest x e)
 
 told_family : (o more : Option (List ℕ)) → is_family o ≡ true → (n : List ℕ) × (or_else o more ≡ Some n) × (is_family_name n ≡ true)
 told_family None more e = absurd cc
@@ -281,7 +286,10 @@ told_family (Some n) more e = (n, refl, e)
 family_first : (ts : List Tok) (x : Unit {0}) (rest : List Tok) → one_at (stands declares_family) ts ≡ Some (x, rest) → (n : List ℕ) × (first_global ts ≡ Some n) × (is_family_name n ≡ true)
 unfolding one_at first_global
 family_first [] x rest e = absurd cc
-family_first (t ∷ ts) x rest e = told_family (global_of t) (first_global ts) (chosen_is (declares_family t) ts rest x e)
+family_first (over ∷ ts) x rest e = absurd cc
+family_first (bad ∷ ts) x rest e = absurd cc
+family_first (tok kind bytes ∷ ts) x rest e =
+    told_family (global_of (tok kind bytes)) (first_global ts) (chosen_is (declares_family (tok kind bytes)) ts rest x e)
 
 called_first : (ts : List Tok) (call : List ℕ × List Given) (rest : List Tok) → called_at ts ≡ Some (call, rest) → first_global ts ≡ Some call.0
 unfolding called_at
