@@ -36,7 +36,8 @@ loop-i-preserved c =
     let args = map seen_argument arguments in
     let all = arguments_named c.args.line [] args in
     let blank : Argument = record { ty = Void; name = None } in
-    let ty = (get_or arguments i blank).ty in
+    let argument = c.index-arguments-i.result in
+    let ty = argument.ty in
     let as_many : length args ≡ length arguments = length-map arguments seen_argument in
     let below : i < length args = omega arith in
     let same : length names ≡ length all = same-length (λ (v : Vec ℕ Global). v.items) (λ (one : Naming). one.name) names all c.requires in
@@ -45,7 +46,8 @@ loop-i-preserved c =
     = ap (λ (xs : List (List ℕ)). get_or xs i []) (sym c.requires) ∙ get_or-map (λ (v : Vec ℕ Global). v.items) names i vec [] inside
     ∙ ap (λ (v : Vec ℕ Global). v.items) (sym c.index-names-i.is) ∙ sym c.as_slice.ensures.value in
     let typed : (get_or args i (seen_argument blank)).ty ≡ ty
-    = ap (λ (one : Named). one.ty) (get_or-map seen_argument arguments i blank (seen_argument blank) c.loop-i-test.true) in
+    = ap (λ (one : Named). one.ty) (get_or-map seen_argument arguments i argument (seen_argument blank) c.loop-i-test.true)
+    ∙ ap (λ (one : Argument). one.ty) (sym c.index-arguments-i.is) in
     let more : take (i + 1) all ≡ take i all ++ record { line = c.args.line; name = c.as_slice.result.now; ty = ty } ∷ []
     = argument-push c.args.line args i c.as_slice.result.now ty (record { line = 0; name = []; ty = Void }) (seen_argument blank) below named typed in
     let before : Values c.args.form c.args.self.now c.loop-i.self c.args.first.now.found c.loop-i.first.found (take i all)
