@@ -1,5 +1,6 @@
 -- One more case of a `switch`.
 use Rattle.std.proofs.Common.{◌≡◌, ◌∙◌, ℕ, List, [], ◌∷◌, ◌++◌, ap, sym, append_assoc}
+use Rattle.sp_text.specs.declared.names.Name.{Name}
 use Rattle.line_forms.specs.declared.readings.Reading.{Reading}
 use Rattle.line_forms.specs.declared.readings.Reading.TheVariants.{Case}
 use Rattle.line_parts.specs.declared.readings.Value.{Value}
@@ -9,17 +10,16 @@ use Rattle.line_parts.specs.Seen.{seen_value}
 use Rattle.ir_lines.specs.Statements.{Line}
 use Rattle.ir_lines.specs.Views.{said, seen_line}
 use Rattle.ir_lines.specs.Modules.{operand_in, label_in, case_values, case_labels}
-use denote.Bor.{Bor}
 
-pub case_values-more : (names : List (List ℕ)) (width : ℕ) (line : NumberedReading) (rest : List Line) (own : ℕ) (value : Value) (label : Bor (List ℕ))
+pub case_values-more : (names : List (List ℕ)) (width : ℕ) (line : NumberedReading) (rest : List Line) (own : ℕ) (value : Value) (label : Name)
     → line.reading ≡ Case own value label
     → case_values names width (seen_line line ∷ rest) ≡ operand_in names (Int width) (seen_value value) ∷ case_values names width rest
 case_values-more names width line rest own value label e =
     ap (λ (r : Reading). case_values names width (record { number = line.line; says = said r } ∷ rest)) e
 
-pub case_labels-more : (names : List (List ℕ)) (line : NumberedReading) (rest : List Line) (own : ℕ) (value : Value) (label : Bor (List ℕ))
+pub case_labels-more : (names : List (List ℕ)) (line : NumberedReading) (rest : List Line) (own : ℕ) (value : Value) (label : Name)
     → line.reading ≡ Case own value label
-    → case_labels names (seen_line line ∷ rest) ≡ label_in names label.now ∷ case_labels names rest
+    → case_labels names (seen_line line ∷ rest) ≡ label_in names label.bytes.now ∷ case_labels names rest
 case_labels-more names line rest own value label e =
     ap (λ (r : Reading). case_labels names (record { number = line.line; says = said r } ∷ rest)) e
 
