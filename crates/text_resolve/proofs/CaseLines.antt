@@ -10,7 +10,7 @@ use Rattle.line_forms.specs.declared.readings.Reading.{Reading}
 use Rattle.line_forms.specs.declared.readings.Reading.TheVariants.{Case}
 use Rattle.line_parts.specs.declared.readings.Value.{Value}
 use Rattle.ir_lines.specs.Views.{said}
-use denote.Bor.{Bor}
+use Rattle.sp_text.specs.declared.names.Name.{Name}
 use Rattle.list_laws.proofs.Places.{drop_at}
 use Rattle.module_build.proofs.Founds.{IsWholeAt, whole-at}
 
@@ -78,6 +78,6 @@ cases-end lines i n run =
 
 -- ---- one more case
 
-pub not-case : (r : Reading) → ((width : ℕ) (value : Value) (label : Bor (List ℕ)) → r ≡ Case width value label → ⊥) → is_case (said r) ≡ false
+pub not-case : (r : Reading) → ((width : ℕ) (value : Value) (label : Name) → r ≡ Case width value label → ⊥) → is_case (said r) ≡ false
 not-case (Case width value label) none = absurd (none width value label refl)
 not-case _ none = refl

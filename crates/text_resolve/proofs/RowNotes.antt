@@ -2,7 +2,7 @@
 use Rattle.std.proofs.Common.{◌≡◌, ◌≢◌, ◌∙◌, ℕ, ◌+◌, ◌<◌, ◌≤◌, Bool, false, List, [], ◌∷◌, ◌++◌, length, get_or, drop, ap, sym, subst, append_assoc}
 use Rattle.std.specs.Prelude.{Option, map, IsTrue, ◌↔◌, if◌then◌else◌}
 use Rattle.std.proofs.lemmas.List.{append-nil, drop_all}
-use denote.Bor.{Bor}
+use Rattle.sp_text.specs.declared.names.Name.{Name}
 use Rattle.line_forms.specs.declared.readings.Reading.{Reading}
 use Rattle.line_forms.specs.declared.readings.Reading.TheVariants.{Case}
 use Rattle.line_parts.specs.declared.readings.Value.{Value}
@@ -22,7 +22,7 @@ use Rattle.text_resolve.specs.Rows.{row_said, rows_of}
 abbrev pub numbers_of : List Line → List ℕ
 numbers_of lines = map (λ (l : Line). l.number) lines
 
-pub case-more : (line : NumberedReading) (rest : List Line) (width : ℕ) (value : Value) (label : Bor (List ℕ)) → line.reading ≡ Case width value label
+pub case-more : (line : NumberedReading) (rest : List Line) (width : ℕ) (value : Value) (label : Name) → line.reading ≡ Case width value label
     → numbers_of (cases_of (seen_line line ∷ rest)) ≡ line.line ∷ numbers_of (cases_of rest)
 case-more line rest width value label e =
     ap (λ (r : Reading). numbers_of (cases_of (record { number = line.line; says = said r } ∷ rest))) e
@@ -43,11 +43,11 @@ case-end xs i items whole end e =
 
 -- ---- widths
 
-said-case : (width : ℕ) (r : Reading) (other : ℕ) (value : Value) (label : Bor (List ℕ)) → r ≡ Case other value label
+said-case : (width : ℕ) (r : Reading) (other : ℕ) (value : Value) (label : Name) → r ≡ Case other value label
     → IsOtherWidth width (said r) ≡ (other ≢ width)
 said-case width r other value label e = ap (λ (s : Reading). IsOtherWidth width (said s)) e
 
-pub notes-width : (width other : ℕ) (value : Value) (label : Bor (List ℕ)) (test : Bool) (earlier : List Line) (here : NumberedReading) (later : List Line)
+pub notes-width : (width other : ℕ) (value : Value) (label : Name) (test : Bool) (earlier : List Line) (here : NumberedReading) (later : List Line)
     (old new : Option Fault) → here.reading ≡ Case other value label → (IsTrue test ↔ (other ≢ width))
     → Notes old new (λ l code. IsTrue test × Is here.line 5 l code) → Notes old new (OtherWidthAt width earlier (seen_line here) later)
 notes-width width other value label test earlier here later old new e is n =
