@@ -160,15 +160,17 @@ global-named : (t : Tok) → is_named (global_of t) ≡ true
 global-named (tok kinds.Global bytes) = named-is (drop 1 bytes) (is_name (drop 1 bytes)) refl
 global-named t = refl
 
+name-by : (ts : List Tok) (o : Option (List ℕ)) (name : List ℕ) (rest : List Tok) → is_named o ≡ true → with_rest ts o ≡ Some (name, rest) → is_name name ≡ true
+name-by ts None name rest h e = absurd (let none : None ≡ found name rest = e in cc)
+name-by ts (Some bytes) name rest h e = tells is_name bytes name ts rest e h
+
 one-name : (says : Tok → Option (List ℕ)) → ((t : Tok) → is_named (says t) ≡ true)
     → (ts : List Tok) (name : List ℕ) (rest : List Tok) → one_at says ts ≡ Some (name, rest) → is_name name ≡ true
 unfolding one_at
-one-name says all [] name rest e = absurd (let bad : None ≡ found name rest = e in cc)
-one-name says all (t ∷ ts) name rest e = by (says t) (all t) e
-  where
-    by : (o : Option (List ℕ)) → is_named o ≡ true → with_rest ts o ≡ Some (name, rest) → is_name name ≡ true
-    by None h e = absurd (let bad : None ≡ found name rest = e in cc)
-    by (Some bytes) h e = tells is_name bytes name ts rest e h
+one-name says all [] name rest e = absurd (let none : None ≡ found name rest = e in cc)
+one-name says all (over ∷ ts) name rest e = absurd (let none : None ≡ found name rest = e in cc)
+one-name says all (bad ∷ ts) name rest e = name-by ts (says bad) name rest (all bad) e
+one-name says all (tok kind bytes ∷ ts) name rest e = name-by ts (says (tok kind bytes)) name rest (all (tok kind bytes)) e
 
 if_any-named : (ts : List Tok) → is_named (name_if_any ts).0 ≡ true
 if_any-named [] = refl

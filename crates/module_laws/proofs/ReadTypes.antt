@@ -124,11 +124,15 @@ label_name bs name e = by (is_label bs) refl e
     first : List ℕ
     first = before_first is_colon bs
 
+    middle : (a b c : Bool) → (a && b && c) ≡ true → b ≡ true
+    middle true true c f = refl
+    middle true false c f = absurd (let bad : false ≡ true = f in cc)
+    middle false b c f = absurd (let bad : false ≡ true = f in cc)
+
     by : (b : Bool) → is_label bs ≡ b → (if b then Some first else None) ≡ Some name → IsName name
     by true is f =
         let same : first ≡ name = cc in
-        let marked = both (list_any is_colon bs) (is_name first && says_nothing (after_first is_colon bs)) is in
-        subst IsName same (both (is_name first) (says_nothing (after_first is_colon bs)) marked.1).0
+        subst IsName same (middle (list_any is_colon bs) (is_name first) (says_nothing (after_first is_colon bs)) is)
     by false is f = absurd (let bad : None ≡ Some name = f in cc)
 
 pub said_read : (what : Said) → IsKept what → IsSpelled what → said_fits what ≡ true → SaysRead (stated what)
