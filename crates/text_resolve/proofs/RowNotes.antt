@@ -1,10 +1,10 @@
 -- One more line of a function: the lines of its cases, and those of another width.
-use Rattle.std.proofs.Common.{◌≡◌, ◌≢◌, ◌∙◌, ℕ, ◌+◌, ◌<◌, ◌≤◌, Bool, false, List, [], ◌∷◌, ◌++◌, length, get_or, drop, ap, sym, subst, append_assoc}
-use Rattle.std.specs.Prelude.{Option, map, IsTrue, ◌↔◌, if◌then◌else◌}
+use Rattle.std.proofs.Common.{◌≡◌, ◌≢◌, ◌∙◌, ℕ, ◌+◌, ◌<◌, ◌≤◌, Bool, false, List, [], ◌∷◌, ◌++◌, length, get_or, drop, ap, refl, sym, subst, append_assoc}
+use Rattle.std.specs.Prelude.{Option, map, IsTrue, OnOk, Result, Ok, Err, ◌↔◌, if◌then◌else◌}
 use Rattle.std.proofs.lemmas.List.{append-nil, drop_all}
 use Rattle.sp_text.specs.declared.names.Name.{Name}
 use Rattle.line_forms.specs.declared.readings.Reading.{Reading}
-use Rattle.line_forms.specs.declared.readings.Reading.TheVariants.{Case}
+use Rattle.line_forms.specs.declared.readings.Reading.TheVariants.{Case, Switch}
 use Rattle.line_parts.specs.declared.readings.Value.{Value}
 use Rattle.ir_reader.specs.declared.raw.NumberedReading.{NumberedReading}
 use Rattle.list_laws.proofs.Places.{drop_item}
@@ -14,7 +14,8 @@ use Rattle.ir_lines.specs.Statements.{Line}
 use Rattle.ir_lines.specs.Sections.{is_case, cases_of}
 use Rattle.ir_lines.specs.Views.{said, seen_line, seen_lines}
 use Rattle.ir_lines.proofs.NoteLemmas.{notes-same}
-use Rattle.text_resolve.specs.Lost.{IsOtherWidth, OtherWidthAt}
+use Rattle.ir_lines.specs.ReadLines.{is_instruction}
+use Rattle.text_resolve.specs.Lost.{IsOtherWidth, OtherWidthAt, WidthsBehind}
 use Rattle.text_resolve.specs.Rows.{row_said, rows_of}
 
 -- ---- the lines of cases
@@ -72,3 +73,23 @@ pub rows-end : (xs : List NumberedReading) (i : ℕ) (items whole : List (List �
     → items ++ rows_of (seen_lines (drop i xs)) ≡ whole → items ≡ whole
 rows-end xs i items whole end e =
     sym (append-nil items) ∙ ap (λ (ys : List NumberedReading). items ++ rows_of (seen_lines ys)) (sym (drop_all i xs end)) ∙ e
+
+-- ---- a line that is no `switch`
+
+pub other-row : (behind : List Line) (r : Reading) → ((width : ℕ) (value : Value) (default : Name) → r ≡ Switch width value default → ⊥)
+    → (if is_instruction (said r) then [] ∷ [] else []) ≡ row_said behind (said r)
+other-row behind (Switch width value default) none = absurd (none width value default refl)
+other-row behind _ none = refl
+
+pub other-widths : (behind : List Line) (r : Reading) → ((width : ℕ) (value : Value) (default : Name) → r ≡ Switch width value default → ⊥)
+    → (line code : ℕ) → WidthsBehind (said r) behind line code → ⊥
+other-widths behind (Switch width value default) none line code f = none width value default refl
+other-widths behind _ none line code f = f
+
+pub on-ok : {A E : Type 0} (r : Result A E) (P Q : Type 0) → (P → Q) → OnOk r P → OnOk r Q
+on-ok (Ok a) P Q to h = to h
+on-ok (Err e) P Q to h = tt
+
+pub always : {A E : Type 0} (r : Result A E) (P : Type 0) → P → OnOk r P
+always (Ok a) P h = h
+always (Err e) P h = tt

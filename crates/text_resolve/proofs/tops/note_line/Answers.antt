@@ -10,3 +10,9 @@ returns-in-Define c =
     subst (λ (reading : Reading). Notes c.args.first.now.found c.note_head.new.first.found
     (λ at code. (at ≡ c.args.line.now.line) × OuterFault c.args.form c.args.top.now.functions c.args.top.now.layouts (said reading) code))
     (sym c.in-Define.is) c.note_head.ensures
+
+pub returns-in-Declare : goal.returns-in-Declare
+returns-in-Declare c =
+    subst (λ (reading : Reading). Notes c.args.first.now.found c.note_declaration.new.first.found
+    (λ at code. (at ≡ c.args.line.now.line) × OuterFault c.args.form c.args.top.now.functions c.args.top.now.layouts (said reading) code))
+    (sym c.in-Declare.is) c.note_declaration.ensures
