@@ -17,9 +17,9 @@ returns-in-Define c =
 pub returns-in-Declare : goal.returns-in-Declare
 returns-in-Declare c =
     let declared = subst (λ (arguments : List Argument). Notes c.args.first.now.found c.note_declaration.new.first.found
-        (λ at code. (at ≡ c.args.line.now.line) × DeclareFault c.args.form c.args.top.now.functions c.args.top.now.layouts
-        c.in-Declare.answer c.in-Declare.name.bytes.now (map seen_argument arguments) code))
-        c.as_slice-in-Declare.ensures c.note_declaration.ensures in
+    (λ at code. (at ≡ c.args.line.now.line) × DeclareFault c.args.form c.args.top.now.functions c.args.top.now.layouts
+    c.in-Declare.answer c.in-Declare.name.bytes.now (map seen_argument arguments) code))
+    c.as_slice-in-Declare.ensures c.note_declaration.ensures in
     subst (λ (reading : Reading). Notes c.args.first.now.found c.note_declaration.new.first.found
     (λ at code. (at ≡ c.args.line.now.line) × OuterFault c.args.form c.args.top.now.functions c.args.top.now.layouts (said reading) code))
     (sym c.in-Declare.is) declared
