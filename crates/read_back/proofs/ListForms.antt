@@ -1,4 +1,5 @@
 -- The lines with lists: layouts, heads, calls and phis.
+use Rattle.std.specs.Prelude.{if◌then◌else◌}
 use Rattle.std.proofs.Common.{◌≡◌, refl, ap, ◌∙◌, ℕ, Bool, true, false, List, [], ◌∷◌, ◌++◌, map, Option, Some, None, arith, codes, append_assoc, append-nil, length-append}
 use Rattle.std.specs.List.{All}
 use Rattle.sp_text.specs.Tokens.{Tok, tok, tokens, is_name}
@@ -10,7 +11,7 @@ use Rattle.line_parts.specs.declared.readings.TypeWord.TheVariants as types
 use Rattle.line_forms.specs.declared.forms.Form.TheVariants as forms
 use Rattle.line_tokens.specs.declared.words.Dropped.TheVariants as drops
 use Rattle.line_tokens.specs.declared.words.Flags.TheVariants as flags
-use Rattle.line_parts.specs.Gives.{after, one_at, one_noted_at}
+use Rattle.line_parts.specs.Gives.{Found, after, one_at, one_noted_at}
 use Rattle.line_tokens.specs.Marks.{is_mark, begins}
 use Rattle.line_parts.specs.Drops.{past_dropped}
 use Rattle.line_parts.specs.Parts.{Val, is_value_type, is_answer_type, allowed_type_at, spelled_type_at, pointer_at, value_at}
@@ -75,11 +76,19 @@ type_form more = refl
 
 -- ---- arguments
 
+abbrev named_as : TypeWord → Option (List ℕ) × List Tok → Found Named
+named_as of_type named = Some (record { ty = of_type; name = named.0 }, named.1)
+
+named_here : (n : List ℕ) (ts : List Tok) (b : Bool) → b ≡ true
+    → (let p : Option (List ℕ) × List Tok = elim (if b then Some n else None) [ None ↦ (None, tok kinds.Local (37 ∷ n) ∷ ts) | Some first ↦ (Some first, ts) ] in p) ≡ (Some n, ts)
+named_here n ts true e = refl
+named_here n ts false e = absurd cc
+
 argument_says : {text : List ℕ} {of_type : TypeWord} (plain : Bool) (t : SpellsType text of_type) → is_argument_type plain of_type ≡ true → (n : List ℕ) → is_name n ≡ true → (ts : List Tok)
     → argument_at plain (tok kinds.Word t.first ∷ (t.more ++ (tok kinds.Local (37 ∷ n) ∷ ts))) ≡ Some (record { ty = of_type; name = Some n }, ts)
 unfolding argument_at after
 argument_says {text} {of_type} plain t allow n is ts =
-    rw (allowed text of_type t (is_argument_type plain) allow (tok kinds.Local (37 ∷ n) ∷ ts)) (rw (past_all-none drops.Groups (tok kinds.Local (37 ∷ n) ∷ ts) refl, is) refl)
+    rw (allowed text of_type t (is_argument_type plain) allow (tok kinds.Local (37 ∷ n) ∷ ts)) (rw (past_all-none drops.Groups (tok kinds.Local (37 ∷ n) ∷ ts) refl) (ap (named_as of_type) (named_here n ts (is_name n) is)))
 
 argument_spelled : {text : List ℕ} {of_type : TypeWord} (t : SpellsType text of_type) (n : List ℕ) → is_name n ≡ true → (rest : List ℕ) → Stops rest
     → tokens ((text ++ (32 ∷ 37 ∷ n)) ++ rest) ≡ tok kinds.Word t.first ∷ (t.more ++ (tok kinds.Local (37 ∷ n) ∷ tokens rest))
@@ -248,7 +257,7 @@ entry_tokens {bytes} s l is rest =
 entry_says : {bytes : List ℕ} {v : Val} (s : SpellsValue bytes v) (l : List ℕ) → is_name l ≡ true → (ts : List Tok)
     → entry_at (tok kinds.Punct (codes "[") ∷ tok s.kind bytes ∷ tok kinds.Punct (codes ",") ∷ tok kinds.Local (37 ∷ l) ∷ tok kinds.Punct (codes "]") ∷ ts) ≡ Some ((v, l), ts)
 unfolding entry_at after one_at one_noted_at
-entry_says s l is ts = rw (s.says, is) (rw s.within refl)
+entry_says s l is ts = rw s.says (rw s.within (rw is refl))
 
 entry_shape : (bytes l rest : List ℕ) → (91 ∷ 32 ∷ (bytes ++ (44 ∷ 32 ∷ 37 ∷ (l ++ (32 ∷ 93 ∷ []))))) ++ rest ≡ 91 ∷ 32 ∷ (bytes ++ (44 ∷ 32 ∷ 37 ∷ (l ++ (32 ∷ 93 ∷ rest))))
 entry_shape bytes l rest = simp append_assoc
