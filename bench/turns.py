@@ -1,0 +1,57 @@
+"""Runs of programs in turns, so that what else the machine does weighs on all of them alike."""
+import os
+import re
+import subprocess
+import sys
+from dataclasses import dataclass
+
+
+@dataclass
+class Run:
+    used: float      # seconds of the processor, and of these the system's
+    system: float
+    clock: float
+    room: float      # MB at the peak
+    writes: int
+    reads: int
+
+
+def once(words, to, folder):
+    """One run whose output goes `to` null, to a file or to a pipe."""
+    import time
+    out = {'null': subprocess.DEVNULL, 'pipe': subprocess.PIPE}.get(to) or open(f'{folder}/out', 'wb')
+    begin = time.monotonic()
+    child = subprocess.Popen(words, stdout=out, stderr=subprocess.DEVNULL)
+    if to == 'pipe':
+        while os.read(child.stdout.fileno(), 1 << 20):
+            pass
+        child.stdout.close()
+    elif to == 'file':
+        out.close()
+    os.waitid(os.P_PID, child.pid, os.WEXITED | os.WNOWAIT)
+    clock = time.monotonic() - begin
+    with open(f'/proc/{child.pid}/io') as file:
+        calls = dict(line.split(': ') for line in file.read().splitlines())
+    _, status, usage = os.wait4(child.pid, 0)
+    child.returncode = os.waitstatus_to_exitcode(status)
+    if child.returncode:
+        sys.exit(f'{" ".join(words)} ended with {child.returncode}')
+    return Run(usage.ru_utime + usage.ru_stime, usage.ru_stime, clock, usage.ru_maxrss / 1000, int(calls['syscw']), int(calls['syscr']))
+
+
+def best(all_words, to, folder, turns):
+    """Of each of these programs the least of each figure, over so many turns; fewer where one takes more than ten seconds."""
+    found = [[] for _ in all_words]
+    for _ in range(turns):
+        for runs, words in zip(found, all_words):
+            runs.append(once(words, to, folder))
+        if max(runs[-1].clock for runs in found) > 10:
+            break
+    return [Run(*(min(getattr(run, field) for run in runs) for field in Run.__dataclass_fields__)) for runs in found]
+
+
+def instructions(words):
+    """Instructions of the processor, counted by valgrind."""
+    counted = subprocess.run(['valgrind', '--tool=callgrind', '--callgrind-out-file=/dev/null', *words], stdout=subprocess.DEVNULL,
+                             stderr=subprocess.PIPE, text=True)
+    return int(re.search(r'Collected : (\d+)', counted.stderr)[1])
