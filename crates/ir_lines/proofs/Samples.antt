@@ -7,7 +7,7 @@ use Rattle.ir_ast.specs.declared.ops.Op.TheVariants as ops
 use Rattle.ir_ast.specs.declared.ops.Operand.{Operand}
 use Rattle.ir_ast.specs.declared.ops.Operand.TheVariants as operands
 use Rattle.ir_ast.specs.declared.ops.Callee.TheVariants as callees
-use Rattle.line_parts.specs.declared.readings.TypeWord.TheVariants as types
+use Rattle.line_parts.specs.Types as types
 use Rattle.line_parts.specs.Parts as values
 use Rattle.line_tokens.specs.declared.words.Binary.TheVariants.{Add}
 use Rattle.line_parts.specs.Parts.{Val}

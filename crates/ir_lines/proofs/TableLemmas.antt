@@ -3,8 +3,9 @@ use Rattle.std.proofs.Common.{◌≡◌, ◌∙◌, ℕ, ◌+◌, ◌<◌, zero,
 use Rattle.std.specs.Prelude.{map, flat_map, filter, Option}
 use Rattle.std.proofs.lemmas.List.{append-nil, map-append, length-map, take_more}
 use Rattle.std.proofs.lemmas.List.Elements.{filter-append}
-use Rattle.line_parts.specs.declared.readings.TypeWord.{TypeWord}
+use Rattle.line_parts.specs.Types.{TypeWord}
 use Rattle.line_parts.specs.Lists.{Named}
+use Rattle.line_parts.specs.Seen.{seen_type}
 use Rattle.ir_ast.specs.declared.modules.Form.{Form}
 use Rattle.ir_lines.specs.declared.faults.Fault.{Fault}
 use Rattle.std.proofs.lemmas.Grind.{flat_map-append}
@@ -35,13 +36,13 @@ appended f old between new xs more e n =
 
 pub adds_values-none : (t : Local) → AddsValues t t []
 adds_values-none t =
-    record { values = sym (append-nil t.values); types = sym (append-nil t.types.items); blocks = refl; answer = refl }
+    record { values = sym (append-nil t.values); types = sym (append-nil (map seen_type t.types.items)); blocks = refl; answer = refl }
 
 pub adds_values-more : (old between new : Local) (xs more : List Naming) → AddsValues old between xs → AddsValues between new more
     → AddsValues old new (xs ++ more)
 adds_values-more old between new xs more a b = record {
   values = appended (λ (one : Naming). one.name) old.values between.values new.values xs more a.values b.values;
-  types = appended (λ (one : Naming). one.ty) old.types.items between.types.items new.types.items xs more a.types b.types;
+  types = appended (λ (one : Naming). one.ty) (map seen_type old.types.items) (map seen_type between.types.items) (map seen_type new.types.items) xs more a.types b.types;
   blocks = b.blocks ∙ a.blocks;
   answer = b.answer ∙ a.answer;
 }

@@ -1,7 +1,7 @@
 -- The externals, with what they answer and take.
 use Rattle.std.specs.Prelude.{ℕ, List, [], ◌∷◌, ◌++◌, map, codes}
-use Rattle.line_parts.specs.declared.readings.TypeWord.{TypeWord}
-use Rattle.line_parts.specs.declared.readings.TypeWord.TheVariants.{Void, Int, Managed, Plain}
+use Rattle.line_parts.specs.Types.{TypeWord}
+use Rattle.line_parts.specs.Types.{Void, Int, Managed, Plain}
 
 pub record External : Type 0 where
   pub name : List ℕ

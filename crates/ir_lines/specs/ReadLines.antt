@@ -6,8 +6,8 @@ use Rattle.ir_ast.specs.declared.modules.Form.{Form}
 use Rattle.ir_ast.specs.declared.modules.Form.TheVariants.{Source}
 use Rattle.ir_ast.specs.Widths.{IsWidth}
 use Rattle.ir_cfg.specs.Limits.{IsName}
-use Rattle.line_parts.specs.declared.readings.TypeWord.{TypeWord}
-use Rattle.line_parts.specs.declared.readings.TypeWord.TheVariants.{Void, Int, Managed}
+use Rattle.line_parts.specs.Types.{TypeWord}
+use Rattle.line_parts.specs.Types.{Void, Int, Managed}
 use Rattle.line_parts.specs.Parts.{Val, is_case_value, is_scalar_type}
 use Rattle.line_parts.specs.Lists.{Named, Given, given, function}
 use Rattle.ir_lines.specs.Statements.{Guarded, Statement, Line, layout, define, label, binary, compare, convert, select, phi, scalar_step, layout_step, load, call, switch, switch_case, ret, cast, jump, branch, store, ret_void, unreachable, statepoint, gc_result, gc_relocate}

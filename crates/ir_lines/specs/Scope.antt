@@ -1,7 +1,7 @@
 -- What a name stands for: what its first line gives.
 use Rattle.std.specs.Prelude.{ℕ, List, find, Option}
 use Rattle.std.specs.Str.{bytes_eq}
-use Rattle.line_parts.specs.declared.readings.TypeWord.{TypeWord}
+use Rattle.line_parts.specs.Types.{TypeWord}
 use Rattle.ir_lines.specs.Statements.{Line}
 use Rattle.ir_lines.specs.Sections.{LayoutLine, Head, Definition, Naming, BlockLines, layouts_of, heads_of, values_of, blocks_of}
 

@@ -1,7 +1,7 @@
 -- The parts of a list of lines: layouts, heads, definitions, and of a definition its values and its blocks.
 use Rattle.std.specs.Prelude.{ℕ, Bool, true, false, not, ◌&&◌, ◌==◌, nat_le, List, [], ◌∷◌, ◌++◌, map, flat_map, take_while, length, count_by, decimal, Option, Some, None, unwrap_or, if◌then◌else◌}
 use Rattle.std.specs.List.{list_all}
-use Rattle.line_parts.specs.declared.readings.TypeWord.{TypeWord}
+use Rattle.line_parts.specs.Types.{TypeWord}
 use Rattle.line_parts.specs.Lists.{Named}
 use Rattle.ir_lines.specs.Statements.{Statement, Line, layout, declare, define, close, label, switch_case}
 use Rattle.ir_lines.specs.Parts.{gives}

@@ -7,8 +7,8 @@ use Rattle.line_tokens.specs.declared.words.Conversion.{Conversion}
 use Rattle.line_tokens.specs.declared.words.Cast.{Cast}
 use Rattle.ir_ast.specs.declared.ops.Pred.{Pred}
 use Rattle.ir_ast.specs.declared.ops.Pred.TheVariants as preds
-use Rattle.line_parts.specs.declared.readings.TypeWord.{TypeWord}
-use Rattle.line_parts.specs.declared.readings.TypeWord.TheVariants as types
+use Rattle.line_parts.specs.Types.{TypeWord}
+use Rattle.line_parts.specs.Types as types
 use Rattle.line_tokens.specs.declared.literals.Literal.{Literal}
 use Rattle.line_parts.specs.Parts.{Val, null}
 use Rattle.line_parts.specs.Lists.{Named, Given}

@@ -1,7 +1,7 @@
 -- What the tables of the code hold: the definitions, blocks and heads that they list, and when they are those of lines.
 use Rattle.std.specs.Prelude.{◌≡◌, List, ◌++◌, map, filter, length}
 use Rattle.std.specs.Option.{option_copied}
-use Rattle.line_parts.specs.Seen.{seen_argument}
+use Rattle.line_parts.specs.Seen.{seen_type, seen_argument}
 use Rattle.ir_lines.specs.declared.sections.Definition.{Definition as DefinitionTable}
 use Rattle.ir_lines.specs.declared.sections.BlockLines.{BlockLines as BlockTable}
 use Rattle.ir_lines.specs.declared.scope.Head.{Head as HeadTable}
@@ -14,7 +14,7 @@ use Rattle.ir_lines.specs.Views.{seen_lines}
 abbrev pub seen_definition : DefinitionTable → Definition
 seen_definition func = record {
   line = func.line;
-  answer = func.answer;
+  answer = seen_type func.answer;
   name = func.name.now;
   arguments = map seen_argument func.arguments.now;
   strategy = option_copied func.strategy;
@@ -29,7 +29,7 @@ seen_head head = record {
   line = head.line;
   defined = head.defined;
   name = head.name.now;
-  answer = head.answer;
+  answer = seen_type head.answer;
   parameters = types_of (map seen_argument head.parameters.now);
 }
 
@@ -44,9 +44,9 @@ pub record IsTop (lines : List Line) (top : Top) : Type 0 where
 -- the table of what the lines of this function can name besides
 pub record IsLocal (func : Definition) (local : Local) : Type 0 where
   pub values : local.values ≡ map (λ one. one.name) (values_of func)
-  pub types : local.types.items ≡ map (λ one. one.ty) (values_of func)
+  pub types : map seen_type local.types.items ≡ map (λ one. one.ty) (values_of func)
   pub blocks : local.blocks ≡ map (λ one. one.name) (blocks_of func)
-  pub answer : local.answer ≡ func.answer
+  pub answer : seen_type local.answer ≡ func.answer
 
 -- ---- one step of filling a table
 
@@ -66,7 +66,7 @@ pub record AddsHeads (old new : Top) (added : List Head) : Type 0 where
 
 pub record AddsValues (old new : Local) (added : List Naming) : Type 0 where
   pub values : new.values ≡ old.values ++ map (λ one. one.name) added
-  pub types : new.types.items ≡ old.types.items ++ map (λ one. one.ty) added
+  pub types : map seen_type new.types.items ≡ map seen_type old.types.items ++ map (λ one. one.ty) added
   pub blocks : new.blocks ≡ old.blocks
   pub answer : new.answer ≡ old.answer
 

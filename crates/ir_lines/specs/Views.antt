@@ -5,7 +5,7 @@ use Rattle.ir_reader.specs.declared.raw.NumberedReading.{NumberedReading}
 use Rattle.line_forms.specs.Seen.{seen}
 use Rattle.ir_reader.specs.Raws.{seen_numbered}
 use Rattle.line_forms.specs.declared.readings.StatepointCall.{StatepointCall}
-use Rattle.line_parts.specs.Seen.{seen_passed}
+use Rattle.line_parts.specs.Seen.{seen_type, seen_passed}
 use Rattle.ir_lines.specs.Statements.{Statement, Line, Guarded, stated, line_of}
 
 abbrev pub said : Reading → Statement
@@ -21,7 +21,7 @@ seen_lines readings = map seen_line readings
 abbrev pub seen_guarded : StatepointCall → Guarded
 seen_guarded c = record {
   id = c.id;
-  signature = record { answer = c.function_type.answer; parameters = c.function_type.parameters.items };
+  signature = record { answer = seen_type c.function_type.answer; parameters = map seen_type c.function_type.parameters.items };
   callee = c.callee.bytes.now;
   count = c.count;
   passed = map seen_passed c.passed.items;

@@ -1,12 +1,14 @@
 //! Literals, and whether two words spell one type.
 
 ghost use Rattle.std.specs.Prelude.{◌≡◌, ◌^◌, ◌%◌, ◌-◌, nat_lt, nat_le, if◌then◌else◌};
+ghost use Rattle.line_parts.specs.Types.{Int};
+ghost use Rattle.line_parts.specs.Seen.{seen_type};
 ghost use Rattle.ir_lines.specs.Modules.{wrapped};
 ghost use Rattle.ir_lines.specs.Types.{same_type, is_cell, is_within};
 
 use crate::operands::type_of;
 use ir_ast::Cell;
-use ir_reader::{Literal, TypeWord};
+use ir_reader::{Literal, TypeWord, Width};
 use sp_ids::wrap;
 
 // Whether the number is below 2^`width`.
@@ -67,14 +69,14 @@ pub fn is_within(width: u32, literal: Literal) -> bool
 
 /// A type of cells, which memory holds.
 pub fn is_cell(ty: TypeWord) -> bool
-    ensures { result ≡ is_cell ty }
+    ensures { result ≡ is_cell (seen_type ty) }
 {
     Cell::of(&type_of(ty)).is_some()
 }
 
 /// Whether two words spell one type.
 pub fn same_type(one: TypeWord, other: TypeWord) -> bool
-    ensures { result ≡ same_type one other }
+    ensures { result ≡ same_type (seen_type one) (seen_type other) }
 {
     match one {
         TypeWord::Void => matches!(other, TypeWord::Void),
@@ -84,11 +86,11 @@ pub fn same_type(one: TypeWord, other: TypeWord) -> bool
     }
 }
 
-fn has_width(ty: TypeWord, width: u32) -> bool
-    ensures { result ≡ same_type (TypeWord.Int width) ty }
+fn has_width(ty: TypeWord, width: Width) -> bool
+    ensures { result ≡ same_type (Int width.bits) (seen_type ty) }
 {
     match ty {
-        TypeWord::Int(other) => width == other,
+        TypeWord::Int(other) => width.bits == other.bits,
         TypeWord::Managed | TypeWord::Void | TypeWord::Plain => false,
     }
 }

@@ -1,7 +1,7 @@
 //! Operands by number.
 
 ghost use Rattle.std.specs.Prelude.{◌≡◌};
-ghost use Rattle.line_parts.specs.Seen.{seen_passed, seen_value};
+ghost use Rattle.line_parts.specs.Seen.{seen_type, seen_passed, seen_value};
 ghost use Rattle.ir_lines.specs.Modules.{passed_type, operand_in, label_in, type_of, element_of, binary_of, conversion_of, width_of};
 
 use crate::literals::wrapped;
@@ -12,21 +12,21 @@ use sp_ids::{BlockId, ValueId};
 
 /// The type that a word spells; `Void` stands for that of a function's name.
 pub fn type_of(ty: TypeWord) -> Ty
-    ensures { result ≡ type_of ty }
+    ensures { result ≡ type_of (seen_type ty) }
 {
     match ty {
         TypeWord::Void | TypeWord::Plain => Ty::Void,
-        TypeWord::Int(width) => Ty::Int(width),
+        TypeWord::Int(width) => Ty::Int(width.bits),
         TypeWord::Managed => Ty::Ptr,
     }
 }
 
 /// The source element of a `getelementptr` over integers or pointers.
 pub fn element_of(ty: TypeWord) -> Elem
-    ensures { result ≡ element_of ty }
+    ensures { result ≡ element_of (seen_type ty) }
 {
     match ty {
-        TypeWord::Int(width) => Elem::Int(width),
+        TypeWord::Int(width) => Elem::Int(width.bits),
         TypeWord::Managed | TypeWord::Void | TypeWord::Plain => Elem::Ptr,
     }
 }
@@ -64,7 +64,7 @@ pub fn conversion_of(op: Conversion, to: u32) -> Op
 impl Local<'_> {
     /// The operand that a value of this type stands for.
     pub fn operand(&self, ty: TypeWord, value: &Value) -> Operand
-        ensures { result ≡ operand_in self.now.values ty (seen_value value.now) }
+        ensures { result ≡ operand_in self.now.values (seen_type ty) (seen_value value.now) }
     {
         match value {
             Value::Local(name) => Operand::Value(ValueId(self.values.number(name.bytes))),
@@ -83,17 +83,17 @@ impl Local<'_> {
 }
 
 fn width_of(ty: TypeWord) -> u32
-    ensures { result ≡ width_of ty }
+    ensures { result ≡ width_of (seen_type ty) }
 {
     match ty {
-        TypeWord::Int(width) => width,
+        TypeWord::Int(width) => width.bits,
         TypeWord::Managed | TypeWord::Void | TypeWord::Plain => 64,
     }
 }
 
 /// The type that a call gives one of what it passes.
 pub fn passed_type(passed: &Passed) -> TypeWord
-    ensures { result ≡ passed_type (seen_passed passed.now) }
+    ensures { seen_type result ≡ passed_type (seen_passed passed.now) }
 {
     match passed {
         Passed::Value(ty, _) => *ty,

@@ -2,7 +2,7 @@
 
 ghost use Rattle.std.specs.Prelude.{◌≡◌, ◌↔◌, ◌⊎◌, IsTrue, [], ◌∷◌, ◌++◌, false, map, option_map, option_to_list, if◌then◌else◌, IfOk, OnOk};
 ghost use Rattle.ir_ast.specs.Faults.Reserved.{IsInsertedName};
-ghost use Rattle.line_parts.specs.Seen.{seen_argument};
+ghost use Rattle.line_parts.specs.Seen.{seen_type, seen_argument};
 ghost use Rattle.ir_lines.specs.Again.{at_name, named_layouts, named_heads, named_values, named_blocks, FoundAfter, IsAgain, IsBadName, TopAgain, FoundByNames, results_of, layout_line};
 ghost use Rattle.ir_lines.specs.Notes.{Notes};
 ghost use Rattle.ir_lines.specs.Parts.{gives};
@@ -42,7 +42,7 @@ pub struct Top<'t, 'a> {
 
 // The name and the fields of a line that is a layout.
 fn layout_of<'t, 'a>(line: &'t NumberedReading<'a>) -> Option<(&'a [u8], &'t [TypeWord])>
-    ensures { option_to_list (option_map (λ one. layout_line line.now.line one.0.now one.1.now) result)
+    ensures { option_to_list (option_map (λ one. layout_line line.now.line one.0.now (map seen_type one.1.now)) result)
         ≡ layout_said line.now.line (said line.now.reading) }
 {
     match &line.reading {
@@ -129,7 +129,7 @@ impl<'t, 'a> Top<'t, 'a> {
         fields: &[TypeWord],
         first: &mut First,
     ) -> Result<(), AllocError>
-        ensures added { OnOk result (AddsLayouts self.old self.new (record { line = line; name = name.now; fields = fields.now } ∷ [])) }
+        ensures added { OnOk result (AddsLayouts self.old self.new (record { line = line; name = name.now; fields = map seen_type fields.now } ∷ [])) }
         ensures noted { OnOk result (Notes first.old.found first.new.found (FoundAfter IsAgain self.old.layouts ((line, name.now) ∷ []))) }
     {
         let is_new = self.layouts.add(name)?;
@@ -339,7 +339,7 @@ impl<'n> Local<'n> {
         ty: TypeWord,
         first: &mut First,
     ) -> Result<(), AllocError>
-        ensures added { OnOk result (AddsValues self.old self.new (record { line = line; name = name.now; ty = ty } ∷ [])) }
+        ensures added { OnOk result (AddsValues self.old self.new (record { line = line; name = name.now; ty = seen_type ty } ∷ [])) }
         ensures noted { OnOk result (Notes first.old.found first.new.found (FoundAfter (IsBadName form) self.old.values ((line, name.now) ∷ []))) }
     {
         let is_new = self.values.add(name)?;
@@ -368,7 +368,7 @@ impl<'n> Local<'n> {
 
     /// The type of the first value of this name.
     pub fn type_of(&self, name: &[u8]) -> Option<TypeWord>
-        ensures { result ≡ at_name self.now.values self.now.types.items name.now }
+        ensures { option_map seen_type result ≡ at_name self.now.values (map seen_type self.now.types.items) name.now }
     {
         let place = self.values.find(name)?;
         self.types.get(place).copied()

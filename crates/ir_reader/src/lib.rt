@@ -20,7 +20,7 @@ pub use line_forms::{
 pub use line_parts::{
     AllPassed, Argument, Arguments, Entries, Entry, Fields, Parameters, Passed, TypeWord, Value,
 };
-pub use line_tokens::{Binary, Cast, Conversion, Literal};
+pub use line_tokens::{Binary, Cast, Conversion, Literal, Width};
 pub use raw::{NumberedReading, Raw};
 pub use sp_text::Name;
 pub use text::{read, read_rewritten};

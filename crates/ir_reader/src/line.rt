@@ -1,7 +1,9 @@
 //! One line in its place.
 
 ghost use Rattle.std.specs.Prelude.{◌≡◌, IsTrue, IfErr, OnOk, map};
+ghost use Rattle.std.specs.Option.{option_map};
 ghost use Rattle.sp_text.specs.Tokens.{tokens};
+ghost use Rattle.line_parts.specs.Seen.{seen_type};
 ghost use Rattle.line_forms.specs.Seen.{seen, of_form, dropped_says};
 ghost use Rattle.ir_reader.specs.Limits.{counts_fit};
 ghost use Rattle.ir_reader.specs.Text.{is_top, within, dropped_within, tokens_outcome, outcome, nothing};
@@ -32,8 +34,8 @@ impl Place {
 
 // A line that is dropped, if it passes no limit.
 fn dropped(_which: DroppedLine, _answer: Option<TypeWord>, passed: bool) -> Result<(), LineFault>
-    ensures ok { OnOk result (dropped_within (of_form (Form.Dropped _which) (dropped_says _which _answer)) passed ≡ nothing) }
-    ensures fault { IfErr result (λ fault. IsFaultOf fault (dropped_within (of_form (Form.Dropped _which) (dropped_says _which _answer)) passed)) }
+    ensures ok { OnOk result (dropped_within (of_form (Form.Dropped _which) (dropped_says _which (option_map seen_type _answer))) passed ≡ nothing) }
+    ensures fault { IfErr result (λ fault. IsFaultOf fault (dropped_within (of_form (Form.Dropped _which) (dropped_says _which (option_map seen_type _answer))) passed)) }
 {
     if passed {
         Err(LineFault::OverLimit)

@@ -19,7 +19,7 @@ use Rattle.ir_ast.specs.Faults.GroupShape.{Group, entries_of}
 use Rattle.line_tokens.specs.declared.literals.Literal.{Literal}
 use Rattle.line_tokens.specs.declared.words.Binary.TheVariants.{Add}
 use Rattle.line_tokens.specs.declared.words.Cast.TheVariants.{PtrToInt}
-use Rattle.line_parts.specs.declared.readings.TypeWord.TheVariants as types
+use Rattle.line_parts.specs.Types as types
 use Rattle.line_parts.specs.Parts.{Val}
 use Rattle.line_parts.specs.Parts as values
 use Rattle.line_parts.specs.Lists.{given}

@@ -7,7 +7,7 @@ use Rattle.std.proofs.lemmas.List.Sums.{take_while-cons}
 use Rattle.std.proofs.lemmas.Option.{same_Some}
 use Rattle.ir_reader.specs.declared.states.Place.{Place}
 use Rattle.ir_reader.specs.declared.states.Place.TheVariants as places
-use Rattle.line_parts.specs.declared.readings.TypeWord.{TypeWord}
+use Rattle.line_parts.specs.Types.{TypeWord}
 use Rattle.ir_lines.specs.Statements.{Line, Statement, layout, declare, define, close, label, jump, branch, switch, switch_case, switch_end, ret_void, ret, unreachable}
 use Rattle.ir_lines.specs.Sections.{Definition, definition_said, definitions_of, is_close}
 use Rattle.ir_lines.specs.ReadLines.{is_instruction}

@@ -5,8 +5,8 @@ use Rattle.std.specs.List.{list_any, Contains}
 use Rattle.ir_ast.specs.declared.modules.Form.{Form}
 use Rattle.ir_ast.specs.declared.modules.Form.TheVariants.{Rewritten}
 use Rattle.line_tokens.specs.declared.literals.Literal.{Literal}
-use Rattle.line_parts.specs.declared.readings.TypeWord.{TypeWord}
-use Rattle.line_parts.specs.declared.readings.TypeWord.TheVariants.{Int}
+use Rattle.line_parts.specs.Types.{TypeWord}
+use Rattle.line_parts.specs.Types.{Int}
 use Rattle.line_parts.specs.Parts.{Val}
 use Rattle.line_parts.specs.Parts as values
 use Rattle.ir_lines.specs.Statements.{Line, Statement, select, layout_step, call, switch, switch_case, cast, statepoint}

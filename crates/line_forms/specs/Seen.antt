@@ -8,11 +8,11 @@ use Rattle.line_forms.specs.declared.readings.Reading.{Reading}
 use Rattle.line_forms.specs.declared.readings.Reading.TheVariants as readings
 use Rattle.std.specs.Option.{option_copied}
 use Rattle.sp_text.specs.Tokens.{Tok}
-use Rattle.line_parts.specs.declared.readings.TypeWord.{TypeWord}
+use Rattle.line_parts.specs.Types.{TypeWord}
 use Rattle.line_parts.specs.declared.faults.Stop.{Stop}
 use Rattle.line_parts.specs.declared.faults.Stop.TheVariants as stops
 use Rattle.line_parts.specs.Gives.{Found, after, end_of}
-use Rattle.line_parts.specs.Seen.{seen_value, seen_argument, seen_passed, seen_entry}
+use Rattle.line_parts.specs.Seen.{seen_type, seen_value, seen_argument, seen_passed, seen_entry}
 use Rattle.ir_ast.specs.declared.modules.Form.{Form as TextForm}
 use Rattle.line_forms.specs.Forms.{slots, fit, form_in, is_operator_form}
 use Rattle.line_forms.specs.Slots.{Item, parse, name, layout_name, width, ty, value, pred, scalar, layout, place, fields, entries, declared, defined, called, strategy, types, handed, live, literal, family_answer}
@@ -31,33 +31,33 @@ abbrev pub of_form : Form → List Item → Said
 of_form f is = line (record { form = f; items = is })
 
 abbrev pub seen : Reading → Said
-seen (readings.Layout n fs) = of_form forms.Layout (layout_name n.bytes.now ∷ fields fs.items ∷ [])
-seen (readings.Declare answer n ps) = of_form forms.Declare (ty answer ∷ declared n.bytes.now (map seen_argument ps.items) ∷ [])
-seen (readings.Define answer n args s) = of_form forms.Define (ty answer ∷ defined n.bytes.now (map seen_argument args.items) ∷ strategy (option_copied s) ∷ [])
+seen (readings.Layout n fs) = of_form forms.Layout (layout_name n.bytes.now ∷ fields (map seen_type fs.items) ∷ [])
+seen (readings.Declare answer n ps) = of_form forms.Declare (ty (seen_type answer) ∷ declared n.bytes.now (map seen_argument ps.items) ∷ [])
+seen (readings.Define answer n args s) = of_form forms.Define (ty (seen_type answer) ∷ defined n.bytes.now (map seen_argument args.items) ∷ strategy (option_copied s) ∷ [])
 seen readings.Close = of_form forms.Close []
 seen (readings.Label n) = label n.bytes.now
-seen (readings.Binary x op n l r) = of_form (forms.Binary op) (name x.bytes.now ∷ width n ∷ value (seen_value l) ∷ value (seen_value r) ∷ [])
-seen (readings.Compare x p t l r) = of_form forms.Compare (name x.bytes.now ∷ pred p ∷ ty t ∷ value (seen_value l) ∷ value (seen_value r) ∷ [])
-seen (readings.Convert x op n v to) = of_form (forms.Convert op) (name x.bytes.now ∷ width n ∷ value (seen_value v) ∷ width to ∷ [])
-seen (readings.Select x c lt l rt r) = of_form forms.Select (name x.bytes.now ∷ value (seen_value c) ∷ ty lt ∷ value (seen_value l) ∷ ty rt ∷ value (seen_value r) ∷ [])
-seen (readings.Phi x t es) = of_form forms.Phi (name x.bytes.now ∷ ty t ∷ entries (map seen_entry es.items) ∷ [])
-seen (readings.ScalarElement x e a n i) = of_form forms.ScalarElement (name x.bytes.now ∷ scalar e ∷ value (seen_value a) ∷ width n ∷ value (seen_value i) ∷ [])
-seen (readings.LayoutElement x l a n i p) = of_form forms.LayoutElement (name x.bytes.now ∷ layout l.bytes.now ∷ value (seen_value a) ∷ width n ∷ value (seen_value i) ∷ place p ∷ [])
-seen (readings.Load x t a) = of_form forms.Load (name x.bytes.now ∷ ty t ∷ value (seen_value a) ∷ [])
-seen (readings.Store t v a) = of_form forms.Store (ty t ∷ value (seen_value v) ∷ value (seen_value a) ∷ [])
-seen (readings.ValueCall x t f ps) = of_form forms.ValueCall (name x.bytes.now ∷ ty t ∷ called f.bytes.now (map seen_passed ps.items) ∷ [])
+seen (readings.Binary x op n l r) = of_form (forms.Binary op) (name x.bytes.now ∷ width n.bits ∷ value (seen_value l) ∷ value (seen_value r) ∷ [])
+seen (readings.Compare x p t l r) = of_form forms.Compare (name x.bytes.now ∷ pred p ∷ ty (seen_type t) ∷ value (seen_value l) ∷ value (seen_value r) ∷ [])
+seen (readings.Convert x op n v to) = of_form (forms.Convert op) (name x.bytes.now ∷ width n.bits ∷ value (seen_value v) ∷ width to.bits ∷ [])
+seen (readings.Select x c lt l rt r) = of_form forms.Select (name x.bytes.now ∷ value (seen_value c) ∷ ty (seen_type lt) ∷ value (seen_value l) ∷ ty (seen_type rt) ∷ value (seen_value r) ∷ [])
+seen (readings.Phi x t es) = of_form forms.Phi (name x.bytes.now ∷ ty (seen_type t) ∷ entries (map seen_entry es.items) ∷ [])
+seen (readings.ScalarElement x e a n i) = of_form forms.ScalarElement (name x.bytes.now ∷ scalar (seen_type e) ∷ value (seen_value a) ∷ width n.bits ∷ value (seen_value i) ∷ [])
+seen (readings.LayoutElement x l a n i p) = of_form forms.LayoutElement (name x.bytes.now ∷ layout l.bytes.now ∷ value (seen_value a) ∷ width n.bits ∷ value (seen_value i) ∷ place p ∷ [])
+seen (readings.Load x t a) = of_form forms.Load (name x.bytes.now ∷ ty (seen_type t) ∷ value (seen_value a) ∷ [])
+seen (readings.Store t v a) = of_form forms.Store (ty (seen_type t) ∷ value (seen_value v) ∷ value (seen_value a) ∷ [])
+seen (readings.ValueCall x t f ps) = of_form forms.ValueCall (name x.bytes.now ∷ ty (seen_type t) ∷ called f.bytes.now (map seen_passed ps.items) ∷ [])
 seen (readings.VoidCall f ps) = of_form forms.VoidCall (called f.bytes.now (map seen_passed ps.items) ∷ [])
 seen (readings.Jump l) = of_form forms.Jump (name l.bytes.now ∷ [])
 seen (readings.Branch c l r) = of_form forms.Branch (value (seen_value c) ∷ name l.bytes.now ∷ name r.bytes.now ∷ [])
-seen (readings.Switch n v d) = of_form forms.Switch (width n ∷ value (seen_value v) ∷ name d.bytes.now ∷ [])
-seen (readings.Case n v l) = of_form forms.Case (width n ∷ value (seen_value v) ∷ name l.bytes.now ∷ [])
+seen (readings.Switch n v d) = of_form forms.Switch (width n.bits ∷ value (seen_value v) ∷ name d.bytes.now ∷ [])
+seen (readings.Case n v l) = of_form forms.Case (width n.bits ∷ value (seen_value v) ∷ name l.bytes.now ∷ [])
 seen readings.SwitchEnd = of_form forms.SwitchEnd []
 seen readings.ReturnVoid = of_form forms.ReturnVoid []
-seen (readings.Return t v) = of_form forms.Return (ty t ∷ value (seen_value v) ∷ [])
+seen (readings.Return t v) = of_form forms.Return (ty (seen_type t) ∷ value (seen_value v) ∷ [])
 seen readings.Unreachable = of_form forms.Unreachable []
-seen (readings.Cast x op t v u) = of_form (forms.Cast op) (name x.bytes.now ∷ ty t ∷ value (seen_value v) ∷ ty u ∷ [])
-seen (readings.Statepoint x c vs) = of_form forms.Statepoint (name x.bytes.now ∷ literal c.value.id ∷ ty c.value.function_type.answer ∷ types c.value.function_type.parameters.items ∷ name c.value.callee.bytes.now ∷ literal c.value.count ∷ handed (map seen_passed c.value.passed.items) ∷ live (map seen_value vs.items) ∷ [])
-seen (readings.GcResult x t token) = of_form forms.GcResult (name x.bytes.now ∷ ty t ∷ name token.bytes.now ∷ [])
+seen (readings.Cast x op t v u) = of_form (forms.Cast op) (name x.bytes.now ∷ ty (seen_type t) ∷ value (seen_value v) ∷ ty (seen_type u) ∷ [])
+seen (readings.Statepoint x c vs) = of_form forms.Statepoint (name x.bytes.now ∷ literal c.value.id ∷ ty (seen_type c.value.function_type.answer) ∷ types (map seen_type c.value.function_type.parameters.items) ∷ name c.value.callee.bytes.now ∷ literal c.value.count ∷ handed (map seen_passed c.value.passed.items) ∷ live (map seen_value vs.items) ∷ [])
+seen (readings.GcResult x t token) = of_form forms.GcResult (name x.bytes.now ∷ ty (seen_type t) ∷ name token.bytes.now ∷ [])
 seen (readings.GcRelocate x token b d) = of_form forms.GcRelocate (name x.bytes.now ∷ name token.bytes.now ∷ literal b ∷ literal d ∷ [])
 
 -- a front of this form

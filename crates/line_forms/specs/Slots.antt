@@ -1,7 +1,7 @@
 -- A form is a list of slots. The same list serves the reader, the printer and reading back.
 use Rattle.std.specs.Prelude.{ℕ, true, false, List, [], ◌∷◌, ◌++◌, Option, Some}
 use Rattle.sp_text.specs.Tokens.{Tok}
-use Rattle.line_parts.specs.declared.readings.TypeWord.{TypeWord}
+use Rattle.line_parts.specs.Types.{TypeWord}
 use Rattle.line_tokens.specs.declared.literals.Literal.{Literal}
 use Rattle.ir_ast.specs.declared.ops.Pred.{Pred}
 use Rattle.line_tokens.specs.declared.words.Dropped.{Dropped}

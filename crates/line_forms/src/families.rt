@@ -1,10 +1,12 @@
 //! The parts of declarations of the three families.
 
 ghost use Rattle.std.specs.Prelude.{◌≡◌};
+ghost use Rattle.std.specs.Option.{option_map};
 ghost use Rattle.sp_text.specs.Tokens.{tok};
 ghost use Rattle.line_tokens.specs.Marks.{stands};
 ghost use Rattle.line_parts.specs.Gives.{Gives, one_at};
 ghost use Rattle.line_parts.specs.Groups.{declares_family, family_answer_at, bracketing_at};
+ghost use Rattle.line_parts.specs.Seen.{seen_type};
 
 use line_parts::{Cursor, Stop, TypeWord};
 use line_tokens::{global, is_family_name};
@@ -37,7 +39,7 @@ pub fn family_name(cursor: &mut Cursor) -> Result<(), Stop>
 /// What a function of the three families answers: a type or `void`, or nothing of these where it is `token`.
 #[tactic(auto, unfolding(line_parts::specs::Groups::family_answer_at, line_parts::specs::Gives::after))]
 pub fn family_answer(cursor: &mut Cursor) -> Result<Option<TypeWord>, Stop>
-    ensures { Gives (λ answer. answer) result cursor.new (family_answer_at cursor.old) }
+    ensures { Gives (option_map seen_type) result cursor.new (family_answer_at cursor.old) }
 {
     if cursor.begins_word(b"token") {
         cursor.word(b"token")?;

@@ -2,9 +2,10 @@
 #![tactic(auto, unfolding(crate::specs::Seen::line_at, crate::specs::Forms::fit, crate::specs::Slots::parse, crate::specs::Slots::part, line_parts::specs::Gives::after))]
 
 ghost use Rattle.std.specs.Prelude.{List, [], ◌∷◌, map};
+ghost use Rattle.std.specs.Option.{option_map};
 ghost use Rattle.sp_text.specs.Tokens.{Tok};
 ghost use Rattle.line_parts.specs.Gives.{Gives};
-ghost use Rattle.line_parts.specs.Seen.{seen_passed, seen_value};
+ghost use Rattle.line_parts.specs.Seen.{seen_type, seen_passed, seen_value};
 ghost use Rattle.line_forms.specs.Forms.{result_is, calling, first_types, last_types, point_id, callee_type, callee_count, point_end};
 ghost use Rattle.line_forms.specs.Seen.{seen, of_form, line_at, dropped_says};
 ghost use Rattle.line_forms.specs.Slots.{name, ty, types, literal, handed, live, parse};
@@ -77,7 +78,7 @@ fn statepoint_id(cursor: &mut Cursor) -> Result<Literal, Stop>
 
 // The type of what a statepoint calls.
 fn callee_type(cursor: &mut Cursor, alloc: Global) -> Result<FunctionType, Stop>
-    ensures { Gives (λ t. ty t.answer ∷ types t.parameters.items ∷ []) result cursor.new (parse callee_type cursor.old) }
+    ensures { Gives (λ t. ty (seen_type t.answer) ∷ types (map seen_type t.parameters.items) ∷ []) result cursor.new (parse callee_type cursor.old) }
 {
     cursor.word(b"ptr")?;
     cursor.skip(Dropped::BesideElementType);
@@ -128,7 +129,7 @@ fn boxed<'a>(
 ) -> Result<Reading<'a>, Stop>
     ensures { (rest : List Tok) → Gives seen result rest (Some (
       of_form Form.Statepoint (name token.entry.bytes.now ∷ literal call.entry.id
-          ∷ ty call.entry.function_type.answer ∷ types call.entry.function_type.parameters.items ∷ name call.entry.callee.bytes.now
+          ∷ ty (seen_type call.entry.function_type.answer) ∷ types (map seen_type call.entry.function_type.parameters.items) ∷ name call.entry.callee.bytes.now
           ∷ literal call.entry.count ∷ handed (map seen_passed call.entry.passed.items) ∷ live (map seen_value entries.entry.items) ∷ []),
       rest,
     )) }
@@ -224,7 +225,7 @@ pub fn gc_relocate<'a>(cursor: &mut Cursor<'_, 'a>) -> Result<Reading<'a>, Stop>
 
 // What the declared function answers, unless it is a token.
 pub fn family_declaration(cursor: &mut Cursor) -> Result<Option<TypeWord>, Stop>
-    ensures { Gives (λ answer. of_form (Form.Dropped DroppedLine.Family) (dropped_says DroppedLine.Family answer)) result cursor.new (line_at (Form.Dropped DroppedLine.Family) cursor.old) }
+    ensures { Gives (λ answer. of_form (Form.Dropped DroppedLine.Family) (dropped_says DroppedLine.Family (option_map seen_type answer))) result cursor.new (line_at (Form.Dropped DroppedLine.Family) cursor.old) }
 {
     cursor.word(b"declare")?;
     cursor.skip(Dropped::HeadAttachments);

@@ -2,7 +2,9 @@
 #![tactic(auto, unfolding(crate::specs::Seen::line_at, crate::specs::Forms::fit, crate::specs::Slots::parse, crate::specs::Slots::part, line_parts::specs::Gives::after))]
 
 ghost use Rattle.std.specs.Prelude.{[]};
+ghost use Rattle.std.specs.Option.{option_map};
 ghost use Rattle.line_parts.specs.Gives.{Gives};
+ghost use Rattle.line_parts.specs.Seen.{seen_type};
 ghost use Rattle.line_forms.specs.Seen.{seen, of_form, line_at, dropped_says};
 
 use crate::forms::{DroppedLine, Form};
@@ -74,7 +76,7 @@ pub fn close<'a>(cursor: &mut Cursor<'_, 'a>) -> Result<Reading<'a>, Stop>
 
 // The one thing that a dropped line may say: what a function of a statepoint group answers.
 pub fn dropped_line(cursor: &mut Cursor, which: DroppedLine) -> Result<Option<TypeWord>, Stop>
-    ensures { Gives (λ answer. of_form (Form.Dropped which) (dropped_says which answer)) result cursor.new (line_at (Form.Dropped which) cursor.old) }
+    ensures { Gives (λ answer. of_form (Form.Dropped which) (dropped_says which (option_map seen_type answer))) result cursor.new (line_at (Form.Dropped which) cursor.old) }
 {
     match which {
         DroppedLine::SourceFilename => source_filename(cursor)?,

@@ -4,6 +4,7 @@ ghost use Rattle.std.specs.Prelude.{◌≡◌, true, false, is_some, MatchResult
 ghost use Rattle.std.specs.Option.{option_map};
 ghost use Rattle.sp_text.specs.Names.{seen_name};
 ghost use Rattle.line_parts.specs.Gives.{Gives};
+ghost use Rattle.line_parts.specs.Seen.{seen_type};
 ghost use Rattle.line_forms.specs.Forms.{is_dropped_form, is_operator_form};
 ghost use Rattle.line_forms.specs.Seen.{seen, of_form, line_at, behind_operator, opened_at, ended, Reads, dropped_says};
 
@@ -112,7 +113,7 @@ pub fn whole_dropped(
     cursor: &mut Cursor,
     which: DroppedLine,
 ) -> Result<(Option<TypeWord>, bool), Stop>
-    ensures { Reads (λ answer. of_form (Form.Dropped which) (dropped_says which answer)) result (ended (line_at (Form.Dropped which) cursor.old)) }
+    ensures { Reads (λ answer. of_form (Form.Dropped which) (dropped_says which (option_map seen_type answer))) result (ended (line_at (Form.Dropped which) cursor.old)) }
 {
     let answer = dropped_line(cursor, which)?;
     match cursor.end() {

@@ -1,7 +1,7 @@
 use crate::bundles::LiveEntries;
 use ir_ast::Pred;
 use line_parts::{AllPassed, Arguments, Entries, Fields, Parameters, TypeWord, Value};
-use line_tokens::{Binary, Cast, Conversion, Literal};
+use line_tokens::{Binary, Cast, Conversion, Literal, Width};
 use sp_text::Name;
 
 /// The type of a function, `R (A, ..)`.
@@ -54,7 +54,7 @@ pub enum Reading<'a> {
     Binary {
         result: Name<'a>,
         op: Binary,
-        width: u32,
+        width: Width,
         left: Value<'a>,
         right: Value<'a>,
     },
@@ -70,9 +70,9 @@ pub enum Reading<'a> {
     Convert {
         result: Name<'a>,
         op: Conversion,
-        width: u32,
+        width: Width,
         value: Value<'a>,
-        to: u32,
+        to: Width,
     },
     /// `%x = select i1 V, T V, T V`
     Select {
@@ -94,7 +94,7 @@ pub enum Reading<'a> {
         result: Name<'a>,
         element: TypeWord,
         address: Value<'a>,
-        width: u32,
+        width: Width,
         index: Value<'a>,
     },
     /// `%x = getelementptr %T, P V, iN V`, and maybe `, i32 C`, the place of a field
@@ -102,7 +102,7 @@ pub enum Reading<'a> {
         result: Name<'a>,
         layout: Name<'a>,
         address: Value<'a>,
-        width: u32,
+        width: Width,
         index: Value<'a>,
         place: Option<Literal>,
     },
@@ -142,13 +142,13 @@ pub enum Reading<'a> {
     },
     /// `switch iN V, label %l [`; its cases and its end are the next readings.
     Switch {
-        width: u32,
+        width: Width,
         value: Value<'a>,
         default: Name<'a>,
     },
     /// `iN C, label %m` in a `switch`
     Case {
-        width: u32,
+        width: Width,
         value: Value<'a>,
         label: Name<'a>,
     },

@@ -6,6 +6,7 @@ ghost use Rattle.line_tokens.specs.Families.{statepoint_name, relocate_name};
 ghost use Rattle.line_tokens.specs.Marks.{is_global, stands};
 ghost use Rattle.line_parts.specs.Gives.{Gives, one_at};
 ghost use Rattle.line_parts.specs.Groups.{suffix_of, result_at};
+ghost use Rattle.line_parts.specs.Seen.{seen_type};
 
 use line_parts::{Cursor, Stop, TypeWord};
 use line_tokens::{global, is_result_of, is_text, relocate_name, statepoint_name};
@@ -37,7 +38,7 @@ fn function_named(cursor: &mut Cursor, name: &[u8]) -> Result<(), Stop>
 
 // The end of a result's name, where a type begins here.
 fn suffix<'a>(cursor: &Cursor<'_, 'a>, ty: TypeWord) -> &'a [u8]
-    ensures { result.now ≡ suffix_of ty cursor.now }
+    ensures { result.now ≡ suffix_of (seen_type ty) cursor.now }
 {
     match ty {
         TypeWord::Managed => b"p1",
@@ -51,7 +52,7 @@ fn suffix<'a>(cursor: &Cursor<'_, 'a>, ty: TypeWord) -> &'a [u8]
 /// The type of a result, and its name behind it.
 #[tactic(auto, unfolding(line_parts::specs::Groups::result_at, line_parts::specs::Gives::after))]
 pub fn result_type(cursor: &mut Cursor) -> Result<TypeWord, Stop>
-    ensures { Gives (λ ty. ty) result cursor.new (result_at cursor.old) }
+    ensures { Gives seen_type result cursor.new (result_at cursor.old) }
 {
     let first = cursor.copied();
     let ty = cursor.value_type()?;

@@ -6,8 +6,8 @@ use Rattle.sp_text.specs.Tokens.{Tok, tok, bad, over}
 use Rattle.line_parts.specs.declared.faults.Stop.{Stop}
 use Rattle.line_parts.specs.declared.faults.Stop.TheVariants as stops
 use Rattle.line_tokens.specs.declared.words.Dropped.TheVariants as drops
-use Rattle.line_parts.specs.declared.readings.TypeWord.{TypeWord}
-use Rattle.line_parts.specs.declared.readings.TypeWord.TheVariants as types
+use Rattle.line_parts.specs.Types.{TypeWord}
+use Rattle.line_parts.specs.Types as types
 use Rattle.line_parts.specs.Gives.{Found, Stops, after, one_at, with_rest, noted, one_noted_at}
 use Rattle.line_parts.specs.Groups.{live_entry_at}
 use Rattle.line_tokens.specs.Marks.{is_word, is_mark, begins}

@@ -4,3 +4,4 @@ pub mod Groups
 pub mod Lists
 pub mod Parts
 pub mod Seen
+pub mod Types

@@ -3,8 +3,8 @@ use Rattle.std.specs.Prelude.{ℕ, Bool, true, false, ◌&&◌, ◌||◌, List, 
 use Rattle.std.specs.Str.{bytes_eq}
 use Rattle.sp_text.specs.Tokens.{Tok, tok}
 use Rattle.sp_text.specs.declared.tokens.Kind.TheVariants as kinds
-use Rattle.line_parts.specs.declared.readings.TypeWord.{TypeWord}
-use Rattle.line_parts.specs.declared.readings.TypeWord.TheVariants as types
+use Rattle.line_parts.specs.Types.{TypeWord}
+use Rattle.line_parts.specs.Types as types
 use Rattle.line_tokens.specs.declared.literals.Literal.{Literal}
 use Rattle.line_parts.specs.Gives.{Found, after, one_at, noted, one_noted_at, end_of}
 use Rattle.line_tokens.specs.Marks.{is_word, is_mark, named, local_of, global_of, quoted_of, stands, begins}

@@ -7,7 +7,7 @@ ghost use Rattle.line_tokens.specs.Marks.{is_mark, begins};
 ghost use Rattle.line_parts.specs.Drops.{past};
 ghost use Rattle.line_parts.specs.Parts.{allowed_type_at, is_value_type};
 ghost use Rattle.line_parts.specs.Lists.{listed_at, list_to, comma, fields_at, argument_at, arguments_at, passed_at, all_passed_at, given_behind, entry_at, entries_at, begins_entry, head_at, called_at, is_task_start};
-ghost use Rattle.line_parts.specs.Seen.{seen_argument, seen_passed, seen_entry};
+ghost use Rattle.line_parts.specs.Seen.{seen_type, seen_argument, seen_passed, seen_entry};
 
 use crate::cursor::Cursor;
 use crate::faults::Stop;
@@ -32,7 +32,7 @@ impl<'t, 'a> Cursor<'t, 'a> {
     /// The fields of a layout.
     #[tactic(auto, unfolding(crate::specs::Lists::list_to))]
     pub fn fields(&mut self, alloc: Global) -> Result<Fields, Stop>
-        ensures { Gives (λ fields. fields.items) result self.new (fields_at self.old) }
+        ensures { Gives (λ fields. map seen_type fields.items) result self.new (fields_at self.old) }
     {
         if self.begins_mark(b"}") {
             return Ok(SmallVec::new(alloc));
@@ -41,7 +41,7 @@ impl<'t, 'a> Cursor<'t, 'a> {
     }
 
     fn some_fields(&mut self, alloc: Global) -> Result<Fields, Stop>
-        ensures { Gives (λ fields. fields.items) result self.new (listed_at (allowed_type_at is_value_type) comma self.old) }
+        ensures { Gives (λ fields. map seen_type fields.items) result self.new (listed_at (allowed_type_at is_value_type) comma self.old) }
     {
         let mut fields = SmallVec::new(alloc);
         loop {

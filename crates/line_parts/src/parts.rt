@@ -15,7 +15,8 @@ use crate::cursor::Cursor;
 use crate::faults::Stop;
 use crate::readings::{TypeWord, Value};
 use line_tokens::{
-    Limited, Literal, global, is_mark, is_text, is_word, literal, literal_in, local, quoted, width,
+    Limited, Literal, Width, global, is_mark, is_text, is_word, literal, literal_in, local, quoted,
+    width,
 };
 use sp_text::{Kind, Name, Token};
 
@@ -143,8 +144,8 @@ impl<'t, 'a> Cursor<'t, 'a> {
 
     /// The width of an `iN`.
     #[tactic(auto, unfolding(crate::specs::Gives::one_noted_at))]
-    pub fn width(&mut self) -> Result<u32, Stop>
-        ensures { Gives (λ n. n) result self.new (width_at self.old) }
+    pub fn width(&mut self) -> Result<Width, Stop>
+        ensures { Gives (λ width. width.bits) result self.new (width_at self.old) }
     {
         let Some(token) = self.token() else {
             return Err(Stop::NoReading);

@@ -4,7 +4,7 @@ ghost use Rattle.std.specs.Prelude.{◌≡◌, map, false, true};
 ghost use Rattle.std.specs.List.{list_all};
 ghost use Rattle.line_parts.specs.Gives.{Gives};
 ghost use Rattle.line_parts.specs.Lists.{is_argument_type, listed_at, passed_at};
-ghost use Rattle.line_parts.specs.Seen.{seen_passed};
+ghost use Rattle.line_parts.specs.Seen.{seen_type, seen_passed};
 ghost use Rattle.line_parts.specs.Groups.{begins_argument, handed_at, is_value_given, takes_own};
 
 use crate::cursor::Cursor;
@@ -52,7 +52,7 @@ pub fn handed<'a>(cursor: &mut Cursor<'_, 'a>, alloc: Global) -> Result<AllPasse
 }
 
 fn is_value_type(ty: TypeWord) -> bool
-    ensures { result ≡ is_argument_type false ty }
+    ensures { result ≡ is_argument_type false (seen_type ty) }
 {
     match ty {
         TypeWord::Int(_) => true,
@@ -63,9 +63,14 @@ fn is_value_type(ty: TypeWord) -> bool
 }
 
 fn are_value_types(types: &[TypeWord]) -> bool
-    ensures { result ≡ list_all (is_argument_type false) types.now }
+    ensures { result ≡ list_all (is_argument_type false) (map seen_type types.now) }
 {
-    types.iter().all(|ty| is_value_type(*ty))
+    for ty in types {
+        if !is_value_type(*ty) {
+            return false;
+        }
+    }
+    true
 }
 
 fn is_value(passed: &Passed) -> bool
@@ -90,7 +95,7 @@ fn are_values(passed: &[Passed]) -> bool
 
 /// Whether a function of this name may have these parameters, and take these arguments.
 pub fn takes_own(name: &[u8], types: &[TypeWord], passed: &[Passed]) -> bool
-    ensures { result ≡ takes_own name.now types.now (map seen_passed passed.now) }
+    ensures { result ≡ takes_own name.now (map seen_type types.now) (map seen_passed passed.now) }
 {
     is_text(name, b"task_start") || (are_value_types(types) && are_values(passed))
 }

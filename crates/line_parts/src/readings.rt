@@ -1,4 +1,4 @@
-use line_tokens::Literal;
+use line_tokens::{Literal, Width};
 use smallvec::SmallVec;
 use sp_text::Name;
 
@@ -8,7 +8,7 @@ pub enum TypeWord {
     #[default]
     Void,
     /// `iN`
-    Int(u32),
+    Int(Width),
     /// `ptr addrspace(1)`.
     Managed,
     /// `ptr`, where a line may say so.

@@ -5,6 +5,7 @@ ghost use Rattle.sp_text.specs.Tokens.{tok};
 ghost use Rattle.line_parts.specs.Gives.{Gives, one_at};
 ghost use Rattle.line_tokens.specs.Marks.{stands};
 ghost use Rattle.line_parts.specs.Parts.{addrspace_at, pointer_at, spelled_type_at, allowed_type_at, is_value_type, is_answer_type, is_cast_type, is_managed, is_scalar_type, is_one};
+ghost use Rattle.line_parts.specs.Seen.{seen_type};
 ghost use Rattle.line_parts.specs.Lists.{is_argument_type};
 
 use crate::cursor::Cursor;
@@ -53,7 +54,7 @@ impl<'t, 'a> Cursor<'t, 'a> {
     // What follows `ptr`.
     #[tactic(auto, unfolding(crate::specs::Parts::pointer_at, crate::specs::Gives::after))]
     fn pointer(&mut self) -> Result<TypeWord, Stop>
-        ensures { Gives (λ t. t) result self.new (pointer_at self.old) }
+        ensures { Gives seen_type result self.new (pointer_at self.old) }
     {
         if self.begins_word(b"addrspace") {
             self.addrspace()?;
@@ -66,14 +67,14 @@ impl<'t, 'a> Cursor<'t, 'a> {
     // Any type.
     #[tactic(auto, unfolding(crate::specs::Parts::spelled_type_at))]
     fn spelled_type(&mut self) -> Result<TypeWord, Stop>
-        ensures { Gives (λ t. t) result self.new (spelled_type_at self.old) }
+        ensures { Gives seen_type result self.new (spelled_type_at self.old) }
     {
         let Some(token) = self.token() else {
             return Err(Stop::NoReading);
         };
-        if let Some(bits) = width(&token) {
-            self.note(bits.passes);
-            return Ok(TypeWord::Int(bits.value));
+        if let Some(width) = width(&token) {
+            self.note(width.passes);
+            return Ok(TypeWord::Int(width.value));
         }
         if is_word(&token, b"void") {
             Ok(TypeWord::Void)
@@ -87,10 +88,10 @@ impl<'t, 'a> Cursor<'t, 'a> {
     /// `iN` or `ptr addrspace(1)`.
     #[tactic(auto, unfolding(crate::specs::Parts::allowed_type_at, crate::specs::Gives::after))]
     pub fn value_type(&mut self) -> Result<TypeWord, Stop>
-        ensures { Gives (λ t. t) result self.new (allowed_type_at is_value_type self.old) }
+        ensures { Gives seen_type result self.new (allowed_type_at is_value_type self.old) }
     {
         match self.spelled_type()? {
-            TypeWord::Int(bits) => Ok(TypeWord::Int(bits)),
+            TypeWord::Int(width) => Ok(TypeWord::Int(width)),
             TypeWord::Managed => Ok(TypeWord::Managed),
             _ => Err(Stop::NoReading),
         }
@@ -99,7 +100,7 @@ impl<'t, 'a> Cursor<'t, 'a> {
     /// A type that a function answers.
     #[tactic(auto, unfolding(crate::specs::Parts::allowed_type_at, crate::specs::Gives::after))]
     pub fn answer_type(&mut self) -> Result<TypeWord, Stop>
-        ensures { Gives (λ t. t) result self.new (allowed_type_at is_answer_type self.old) }
+        ensures { Gives seen_type result self.new (allowed_type_at is_answer_type self.old) }
     {
         match self.spelled_type()? {
             TypeWord::Plain => Err(Stop::NoReading),
@@ -110,7 +111,7 @@ impl<'t, 'a> Cursor<'t, 'a> {
     /// A type that a cast names.
     #[tactic(auto, unfolding(crate::specs::Parts::allowed_type_at, crate::specs::Gives::after))]
     pub fn cast_type(&mut self) -> Result<TypeWord, Stop>
-        ensures { Gives (λ t. t) result self.new (allowed_type_at is_cast_type self.old) }
+        ensures { Gives seen_type result self.new (allowed_type_at is_cast_type self.old) }
     {
         match self.spelled_type()? {
             TypeWord::Void => Err(Stop::NoReading),
@@ -121,7 +122,7 @@ impl<'t, 'a> Cursor<'t, 'a> {
     /// `ptr addrspace(1)`.
     #[tactic(auto, unfolding(crate::specs::Parts::allowed_type_at, crate::specs::Gives::after))]
     pub fn managed(&mut self) -> Result<TypeWord, Stop>
-        ensures { Gives (λ t. t) result self.new (allowed_type_at is_managed self.old) }
+        ensures { Gives seen_type result self.new (allowed_type_at is_managed self.old) }
     {
         match self.spelled_type()? {
             TypeWord::Managed => Ok(TypeWord::Managed),
@@ -132,13 +133,14 @@ impl<'t, 'a> Cursor<'t, 'a> {
     /// A type of elements that are no layout's.
     #[tactic(auto, unfolding(crate::specs::Parts::allowed_type_at, crate::specs::Gives::after))]
     pub fn scalar_type(&mut self) -> Result<TypeWord, Stop>
-        ensures { Gives (λ t. t) result self.new (allowed_type_at is_scalar_type self.old) }
+        ensures { Gives seen_type result self.new (allowed_type_at is_scalar_type self.old) }
     {
         match self.spelled_type()? {
             TypeWord::Managed => Ok(TypeWord::Managed),
-            TypeWord::Int(bits) => {
+            TypeWord::Int(width) => {
+                let bits = width.bits;
                 if bits == 8 || bits == 16 || bits == 32 || bits == 64 {
-                    Ok(TypeWord::Int(bits))
+                    Ok(TypeWord::Int(width))
                 } else {
                     Err(Stop::NoReading)
                 }
@@ -150,10 +152,10 @@ impl<'t, 'a> Cursor<'t, 'a> {
     /// A type of an argument; `ptr` where it may stand.
     #[tactic(auto, unfolding(crate::specs::Parts::allowed_type_at, crate::specs::Gives::after))]
     pub fn argument_type(&mut self, plain: bool) -> Result<TypeWord, Stop>
-        ensures { Gives (λ t. t) result self.new (allowed_type_at (is_argument_type plain) self.old) }
+        ensures { Gives seen_type result self.new (allowed_type_at (is_argument_type plain) self.old) }
     {
         match self.spelled_type()? {
-            TypeWord::Int(bits) => Ok(TypeWord::Int(bits)),
+            TypeWord::Int(width) => Ok(TypeWord::Int(width)),
             TypeWord::Managed => Ok(TypeWord::Managed),
             TypeWord::Void => Err(Stop::NoReading),
             TypeWord::Plain => {

@@ -8,6 +8,7 @@ ghost use Rattle.sp_text.specs.Tokens.{tok, are_digits, is_numeral};
 ghost use Rattle.line_tokens.specs.Numbers.{decimal, is_width, is_literal, width_within, width_of, width_passes, is_integer_word, number_spelled, literal_within, literal_spelled, literal_of, literal_passes};
 
 use crate::literals::{Limited, Literal};
+use crate::widths::Width;
 use sp_text::{Kind, Token};
 
 // The number that digits spell, where it is below 2^64.
@@ -63,25 +64,25 @@ pub fn is_integer_word(bytes: &[u8]) -> bool
 }
 
 // The width that the digits of `iN` spell.
-fn width_spelled(digits: &[u8]) -> Limited<u32>
-    ensures value { result.value ≡ width_within (decimal digits.now) }
+fn width_spelled(digits: &[u8]) -> Limited<Width>
+    ensures value { result.value.bits ≡ width_within (decimal digits.now) }
     ensures passes { result.passes ≡ not (is_width (decimal digits.now)) }
 {
     match decimal(digits) {
         Some(bits) if 1 <= bits && bits <= 64 => Limited {
-            value: bits as u32,
+            value: Width { bits: bits as u32 },
             passes: false,
         },
         _ => Limited {
-            value: 1,
+            value: Width { bits: 1 },
             passes: true,
         },
     }
 }
 
 /// The width of `iN`.
-pub fn width(token: &Token) -> Option<Limited<u32>>
-    ensures value { option_map (λ it. it.value) result ≡ width_of (tok token.now.kind token.now.bytes.now) }
+pub fn width(token: &Token) -> Option<Limited<Width>>
+    ensures value { option_map (λ it. it.value.bits) result ≡ width_of (tok token.now.kind token.now.bytes.now) }
     ensures passes { IfSome result (λ it. it.passes ≡ width_passes (tok token.now.kind token.now.bytes.now)) }
 {
     match token.kind {
@@ -91,8 +92,8 @@ pub fn width(token: &Token) -> Option<Limited<u32>>
 }
 
 /// The width of the word `iN`.
-pub fn width_in(bytes: &[u8]) -> Option<Limited<u32>>
-    ensures value { option_map (λ it. it.value) result ≡ width_of (tok Kind.Word bytes.now) }
+pub fn width_in(bytes: &[u8]) -> Option<Limited<Width>>
+    ensures value { option_map (λ it. it.value.bits) result ≡ width_of (tok Kind.Word bytes.now) }
     ensures passes { IfSome result (λ it. it.passes ≡ width_passes (tok Kind.Word bytes.now)) }
 {
     match bytes {

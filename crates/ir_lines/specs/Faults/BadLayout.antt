@@ -1,7 +1,7 @@
 -- Code 13. A layout without fields, or with a field that is no cell.
 use Rattle.std.specs.Prelude.{ℕ, Bool, false, not, ◌&&◌, ◌==◌, List, length}
 use Rattle.std.specs.List.{list_all}
-use Rattle.line_parts.specs.declared.readings.TypeWord.{TypeWord}
+use Rattle.line_parts.specs.Types.{TypeWord}
 use Rattle.ir_lines.specs.Statements.{Line, Statement, layout}
 use Rattle.ir_lines.specs.Types.{is_cell}
 use Rattle.ir_lines.specs.InBody.{InText}

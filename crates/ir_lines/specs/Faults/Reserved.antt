@@ -1,7 +1,7 @@
 -- Code 14. Names that the externals, LLVM and the rewriting have.
 use Rattle.std.specs.Prelude.{◌≡◌, ℕ, List, ◌⊎◌, codes}
 use Rattle.std.specs.List.{Contains}
-use Rattle.line_parts.specs.declared.readings.TypeWord.{TypeWord}
+use Rattle.line_parts.specs.Types.{TypeWord}
 use Rattle.line_parts.specs.Lists.{Named}
 use Rattle.ir_ast.specs.declared.modules.Form.{Form}
 use Rattle.ir_ast.specs.declared.modules.Form.TheVariants.{Source}

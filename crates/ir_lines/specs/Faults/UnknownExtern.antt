@@ -1,7 +1,7 @@
 -- Code 12. A declaration that isn't one of the externals, with its answer and its parameters.
 use Rattle.std.specs.Prelude.{ℕ, List, map}
 use Rattle.std.specs.List.{Contains}
-use Rattle.line_parts.specs.declared.readings.TypeWord.{TypeWord}
+use Rattle.line_parts.specs.Types.{TypeWord}
 use Rattle.line_parts.specs.Lists.{Named}
 use Rattle.ir_lines.specs.Statements.{Line, declare}
 use Rattle.ir_lines.specs.Sections.{layouts_of, types_of}

@@ -1,10 +1,11 @@
 use Rattle.std.proofs.Common.{◌≡◌, ◌∙◌, ◌<◌, ◌≤◌, ◌+◌, ap, sym, subst, [], ◌∷◌, ◌++◌, List, ℕ, length, get_or, take, arith, Vec, Global}
 use Rattle.std.specs.Prelude.{map, None}
 use Rattle.line_parts.specs.declared.readings.Argument.{Argument}
-use Rattle.line_parts.specs.declared.readings.TypeWord.TheVariants.{Void}
+use Rattle.line_parts.specs.declared.readings.TypeWord.TheVariants as spelled
+use Rattle.line_parts.specs.Types as types
 use Rattle.line_parts.specs.Lists.{Named}
 use Rattle.std.proofs.lemmas.List.{length-map, take_all}
-use Rattle.line_parts.specs.Seen.{seen_argument}
+use Rattle.line_parts.specs.Seen.{seen_type, seen_argument}
 use Rattle.ir_lines.specs.Sections.{Naming, arguments_named}
 use Rattle.ir_lines.specs.Again.{FoundAfter, IsBadName, named_values}
 use Rattle.ir_lines.specs.Notes.{Notes}
@@ -35,9 +36,9 @@ loop-i-preserved c =
     let vec = c.index-names-i.result in
     let args = map seen_argument arguments in
     let all = arguments_named c.args.line [] args in
-    let blank : Argument = record { ty = Void; name = None } in
+    let blank : Argument = record { ty = spelled.Void; name = None } in
     let argument = c.index-arguments-i.result in
-    let ty = argument.ty in
+    let ty = seen_type argument.ty in
     let as_many : length args ≡ length arguments = length-map arguments seen_argument in
     let below : i < length args = omega arith in
     let same : length names ≡ length all = same-length (λ (v : Vec ℕ Global). v.items) (λ (one : Naming). one.name) names all c.requires in
@@ -47,9 +48,9 @@ loop-i-preserved c =
     ∙ ap (λ (v : Vec ℕ Global). v.items) (sym c.index-names-i.is) ∙ sym c.as_slice.ensures.value in
     let typed : (get_or args i (seen_argument blank)).ty ≡ ty
     = ap (λ (one : Named). one.ty) (get_or-map seen_argument arguments i argument (seen_argument blank) c.loop-i-test.true)
-    ∙ ap (λ (one : Argument). one.ty) (sym c.index-arguments-i.is) in
+    ∙ ap (λ (one : Argument). seen_type one.ty) (sym c.index-arguments-i.is) in
     let more : take (i + 1) all ≡ take i all ++ record { line = c.args.line; name = c.as_slice.result.now; ty = ty } ∷ []
-    = argument-push c.args.line args i c.as_slice.result.now ty (record { line = 0; name = []; ty = Void }) (seen_argument blank) below named typed in
+    = argument-push c.args.line args i c.as_slice.result.now ty (record { line = 0; name = []; ty = types.Void }) (seen_argument blank) below named typed in
     let before : Values c.args.form c.args.self.now c.loop-i.self c.args.first.now.found c.loop-i.first.found (take i all)
     = record { added = c.loop-i.invariant.added; noted = c.loop-i.invariant.noted } in
     let v = values-more c.args.form c.args.self.now c.loop-i.self c.add_value.new.self c.args.first.now.found c.loop-i.first.found

@@ -1,4 +1,4 @@
-use Rattle.std.proofs.Common.{◌+◌, ◌++◌, ◌≤◌, ◌^◌, List, length, map, drop, arith}
+use Rattle.std.proofs.Common.{◌++◌, ◌≤◌, ◌^◌, List, length, map, drop, arith}
 use Rattle.sp_text.specs.Tokens.{Tok, tokens}
 use Rattle.sp_text.specs.TokenAt.{seen_token}
 use Rattle.line_parts.specs.Gives.{noted}

@@ -1,5 +1,5 @@
-use Rattle.std.proofs.Common.{◌≡◌, ◌++◌, ◌+◌, List, map, drop, ap, sym, ◌∙◌}
-use Rattle.sp_text.specs.Tokens.{Tok, tokens}
+use Rattle.std.proofs.Common.{◌++◌, List, map, ap, sym, ◌∙◌}
+use Rattle.sp_text.specs.Tokens.{tokens}
 use Rattle.sp_text.specs.TokenAt.{seen_token}
 use Rattle.sp_text.specs.declared.tokens.Token.{Token}
 use Rattle.line_parts.specs.Gives.{noted, end_of}

@@ -1,4 +1,4 @@
-use Rattle.std.proofs.Common.{◌≡◌, ◌++◌, ◌+◌, List, map, drop, ap, sym, ◌∙◌, ◌∷◌, subst, refl}
+use Rattle.std.proofs.Common.{◌++◌, List, map, ap, sym, ◌∙◌, ◌∷◌, subst, refl}
 use Rattle.sp_text.specs.Tokens.{Tok, tokens, tok}
 use Rattle.sp_text.specs.TokenAt.{seen_token}
 use Rattle.sp_text.specs.declared.tokens.Token.{Token}
