@@ -210,7 +210,7 @@ statepoint-same form scope tables t made =
     (head-same scope tables t made.callee)
 
 says-same : (form : Form) (scope : Scope) (tables : Tables) (what : Statement) → AreTables scope tables → says_wrong_in form tables what ≡ says_wrong form scope what
-says-same form scope tables (call result answer callee passed) t = ap not (call-same form scope tables t answer callee passed)
+says-same form scope tables (call result made) t = ap not (call-same form scope tables t made.answer made.callee made.passed)
 says-same form scope tables (statepoint result made live) t = ap not (statepoint-same form scope tables t made)
 says-same form scope tables (cast result op from value to) t = ap not (fits-same scope tables t from value)
 says-same form scope tables _ t = refl
