@@ -12,7 +12,7 @@ use Rattle.line_parts.specs.Parts as values
 use Rattle.line_tokens.specs.declared.words.Binary.TheVariants.{Add}
 use Rattle.line_parts.specs.Parts.{Val}
 use Rattle.line_parts.specs.Lists.{given}
-use Rattle.ir_lines.specs.Statements.{Statement, Line, define, declare, close, label, binary, phi, call, jump, switch, switch_case, switch_end, ret}
+use Rattle.ir_lines.specs.Statements.{Statement, Line, define, declare, close, label, binary, phi, call, calling, jump, switch, switch_case, switch_end, ret}
 use Rattle.ir_lines.specs.Sections.{definitions_of}
 use Rattle.ir_lines.specs.Scope.{Scope, scope_of}
 use Rattle.ir_lines.specs.Modules.{instruction, module_of}
@@ -40,7 +40,7 @@ text =
     ∷ at 7 (label (codes "a"))
     ∷ at 8 (phi (codes "x") (types.Int 64) ((plain 7, codes "0") ∷ (values.local (codes "y"), codes "a") ∷ []))
     ∷ at 9 (binary (codes "y") Add 64 (values.local (codes "x")) (minus 1))
-    ∷ at 10 (call None types.Void (codes "print_i64") (given (types.Int 64) (values.local (codes "y")) ∷ []))
+    ∷ at 10 (call None (calling types.Void (codes "print_i64") (given (types.Int 64) (values.local (codes "y")) ∷ [])))
     ∷ at 11 (jump (codes "a"))
     ∷ at 12 (label (codes "b"))
     ∷ at 13 (ret (types.Int 64) (plain 0))
@@ -101,8 +101,8 @@ whats =
     ∷ jump (codes "0")
     ∷ jump (codes "u")
     ∷ ret (types.Int 32) (plain 0)
-    ∷ call None types.Void (codes "print_i64") []
-    ∷ call None types.Void (codes "u") []
+    ∷ call None (calling types.Void (codes "print_i64") [])
+    ∷ call None (calling types.Void (codes "u") [])
     ∷ []
 
 pub finds_unknown_names : found_by names_unknown whats

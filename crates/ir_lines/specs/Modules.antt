@@ -211,9 +211,9 @@ instruction_said known behind (load result ty address) =
     Some (instruction (Some result) ops.Load (type_of ty) (operand_of known types.Managed address ∷ []) [])
 instruction_said known behind (store ty value address) =
     Some (instruction None ops.Store (type_of ty) (operand_of known ty value ∷ operand_of known types.Managed address ∷ []) [])
-instruction_said known behind (call result answer callee passed) =
-    Some (instruction result (ops.Call (callee_of known callee) (map given_type passed)) (type_of answer)
-    (map (passed_operand known) passed) [])
+instruction_said known behind (call result made) =
+    Some (instruction result (ops.Call (callee_of known made.callee) (map given_type made.passed)) (type_of made.answer)
+    (map (passed_operand known) made.passed) [])
 instruction_said known behind (jump to) = Some (instruction None ops.Br tys.Void [] (label_of known to ∷ []))
 instruction_said known behind (branch condition on_true on_false) =
     Some (instruction None ops.CondBr (tys.Int 1) (operand_of known (types.Int 1) condition ∷ [])

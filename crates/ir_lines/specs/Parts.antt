@@ -26,7 +26,7 @@ gives (phi result ty entries) = Some (result, ty)
 gives (scalar_step result element address width index) = Some (result, Managed)
 gives (layout_step result named address width index place) = Some (result, Managed)
 gives (load result ty address) = Some (result, ty)
-gives (call result answer callee passed) = given_by_call result answer
+gives (call result made) = given_by_call result made.answer
 gives (cast result op from value to) = Some (result, to)
 gives (statepoint result made live) = Some (result, token_type)
 gives (gc_result result ty token) = Some (result, ty)
@@ -61,7 +61,7 @@ uses (scalar_step result element address width index) = (address, Managed) ∷ (
 uses (layout_step result named address width index place) = (address, Managed) ∷ (index, Int width) ∷ []
 uses (load result ty address) = (address, Managed) ∷ []
 uses (store ty value address) = (value, ty) ∷ (address, Managed) ∷ []
-uses (call result answer callee passed) = filter_map passed_value passed
+uses (call result made) = filter_map passed_value made.passed
 uses (branch condition on_true on_false) = (condition, Int 1) ∷ []
 uses (switch width value default) = (value, Int width) ∷ []
 uses (switch_case width value to) = (value, Int width) ∷ []
@@ -90,7 +90,7 @@ passed_function (function name) = Some name
 
 -- the functions that it names: what it calls, and what it passes
 abbrev pub functions_named : Statement → List (List ℕ)
-functions_named (call result answer callee passed) = callee ∷ filter_map passed_function passed
+functions_named (call result made) = made.callee ∷ filter_map passed_function made.passed
 functions_named (statepoint result made live) = made.callee ∷ filter_map passed_function made.passed
 functions_named _ = []
 

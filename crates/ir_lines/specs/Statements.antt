@@ -23,6 +23,12 @@ pub record Signature : Type 0 where
   pub answer : TypeWord
   pub parameters : List TypeWord
 
+-- a call: the type of what it answers, the function's name, the arguments
+pub record Called : Type 0 where
+  pub answer : TypeWord
+  pub callee : List ℕ
+  pub passed : List Given
+
 -- a statepoint's call: its id, the function's type and name, the number of arguments that it tells, the arguments
 pub record Guarded : Type 0 where
   pub id : Literal
@@ -52,7 +58,7 @@ pub data Statement : Type 0 where
   load : (result : List ℕ) → (ty : TypeWord) → (address : Val) → Statement
   store : (ty : TypeWord) → (value address : Val) → Statement
   -- `%x = call T @f(T V, ..)`, `call void @f(T V, ..)`
-  call : (result : Option (List ℕ)) → (answer : TypeWord) → (callee : List ℕ) → (passed : List Given) → Statement
+  call : (result : Option (List ℕ)) → (made : Called) → Statement
   jump : (to : List ℕ) → Statement
   branch : (condition : Val) → (on_true on_false : List ℕ) → Statement
   -- `switch iN V, label %l [`, whose cases and end are the next lines
@@ -144,6 +150,10 @@ abbrev pub strategy_of : Option Item → Option (List ℕ)
 strategy_of (Some (items.strategy s)) = s
 strategy_of _ = None
 
+-- a call that has nothing besides
+abbrev pub calling : TypeWord → List ℕ → List Given → Called
+calling answer callee passed = record { answer = answer; callee = callee; passed = passed }
+
 -- a line of a form, with what stands at its slots; a dropped line says nothing and is none of the readings
 abbrev pub of_form : Form → (ℕ → Option Item) → Statement
 of_form (forms.Dropped which) at = close
@@ -160,8 +170,8 @@ of_form forms.ScalarElement at = scalar_step (name_of (at 0)) (type_of (at 1)) (
 of_form forms.LayoutElement at = layout_step (name_of (at 0)) (name_of (at 1)) (value_of (at 2)) (width_of (at 3)) (value_of (at 4)) (place_of (at 5))
 of_form forms.Load at = load (name_of (at 0)) (type_of (at 1)) (value_of (at 2))
 of_form forms.Store at = store (type_of (at 0)) (value_of (at 1)) (value_of (at 2))
-of_form forms.ValueCall at = call (Some (name_of (at 0))) (type_of (at 1)) (called_of (at 2)).0 (called_of (at 2)).1
-of_form forms.VoidCall at = call None types.Void (called_of (at 0)).0 (called_of (at 0)).1
+of_form forms.ValueCall at = call (Some (name_of (at 0))) (calling (type_of (at 1)) (called_of (at 2)).0 (called_of (at 2)).1)
+of_form forms.VoidCall at = call None (calling types.Void (called_of (at 0)).0 (called_of (at 0)).1)
 of_form forms.Jump at = jump (name_of (at 0))
 of_form forms.Branch at = branch (value_of (at 0)) (name_of (at 1)) (name_of (at 2))
 of_form forms.Switch at = switch (width_of (at 0)) (value_of (at 1)) (name_of (at 2))

@@ -94,8 +94,8 @@ front_at known (l ∷ ls) rest place inst e = by (said_at known l (ls ++ rest)) 
 
 one_given : (known : Known) (rest : List Line) (n : ℕ) (s : Statement)
     → length (filter has_result (insts_said (instruction_said known rest s))) ≡ length (result_named n (gives s))
-one_given known rest n (call None answer callee passed) = refl
-one_given known rest n (call (Some result) answer callee passed) = refl
+one_given known rest n (call None made) = refl
+one_given known rest n (call (Some result) made) = refl
 one_given known rest n _ = refl
 
 -- as many results as values that the lines give

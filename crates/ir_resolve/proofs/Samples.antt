@@ -23,7 +23,7 @@ use Rattle.line_parts.specs.Types as types
 use Rattle.line_parts.specs.Parts.{Val}
 use Rattle.line_parts.specs.Parts as values
 use Rattle.line_parts.specs.Lists.{given}
-use Rattle.ir_lines.specs.Statements.{Statement, Line, layout, declare, define, close, label, binary, compare, phi, scalar_step, store, call, jump, switch, switch_case, switch_end, ret, cast, statepoint, gc_result, gc_relocate}
+use Rattle.ir_lines.specs.Statements.{Statement, Line, layout, declare, define, close, label, binary, compare, phi, scalar_step, store, call, calling, jump, switch, switch_case, switch_end, ret, cast, statepoint, gc_result, gc_relocate}
 use Rattle.ir_lines.specs.Sections.{Definition, Naming, definitions_of, layouts_of, cases_of}
 use Rattle.ir_lines.specs.Scope.{Scope, scope_of}
 use Rattle.ir_lines.specs.InBody.{InBody, InText}
@@ -226,7 +226,7 @@ shifts_nothing = refl
 -- a call is judged by its declaration, which is wrong and stands behind it
 abbrev declared_behind : List Line
 declared_behind =
-    text_of (call None types.Void (codes "print_i64") (given (types.Int 64) (number 5) ∷ []) ∷ end ∷ [])
+    text_of (call None (calling types.Void (codes "print_i64") (given (types.Int 64) (number 5) ∷ [])) ∷ end ∷ [])
     ++ numbered 6 (declare types.Void (codes "print_i64") (record { ty = types.Int 32; name = None } ∷ []) ∷ [])
 
 has_5_by_call : HasTextFault Source declared_behind 3 5

@@ -41,7 +41,7 @@ is_below_zero (Some place) = place.negative && nat_lt 0 place.magnitude
 abbrev pub says_wrong : Form → Scope → Statement → Bool
 says_wrong form scope (select result condition left_ty left right_ty right) = not (same_type left_ty right_ty)
 says_wrong form scope (layout_step result named address width index place) = is_below_zero place
-says_wrong form scope (call result answer callee passed) = not (call_agrees form scope answer callee passed)
+says_wrong form scope (call result made) = not (call_agrees form scope made.answer made.callee made.passed)
 says_wrong form scope (statepoint result made live) = not (statepoint_agrees form scope made)
 says_wrong form scope (cast result op from value to) = not (fits scope from value)
 says_wrong form scope _ = false

@@ -6,6 +6,7 @@ use Rattle.line_parts.specs.declared.readings.TypeWord.{TypeWord}
 use Rattle.line_parts.specs.declared.readings.Passed.{Passed}
 use Rattle.line_parts.specs.Parts.{Val}
 use Rattle.line_parts.specs.Seen.{seen_passed}
+use Rattle.std.proofs.Math.Bool.{or-false}
 use Rattle.std.proofs.lemmas.List.{drop_all}
 use Rattle.list_laws.proofs.Places.{drop_item}
 use Rattle.ir_lines.specs.Parts.{passed_value, passed_function}
@@ -58,10 +59,6 @@ pub turn : (a b c : Bool) → (b || (a || c)) ≡ ((a || b) || c)
 turn true true c = refl
 turn true false c = refl
 turn false b c = refl
-
-or-false : (a : Bool) → (a || false) ≡ a
-or-false true = refl
-or-false false = refl
 
 pub names-any : (names : List (List ℕ)) (unknown : Bool) (wanted : List (List ℕ))
     → after_names names unknown wanted ≡ (list_any (λ name. is_none (place_in names name)) wanted || unknown)

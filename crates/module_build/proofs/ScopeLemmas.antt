@@ -4,6 +4,7 @@ use Rattle.std.specs.Prelude.{Option, Some, None, map, filter_map, find, slice_g
 use Rattle.std.specs.Option.{option_and_then}
 use Rattle.std.specs.List.{list_any, cons_option, position_or_len}
 use Rattle.std.specs.Str.{bytes_eq}
+use Rattle.std.proofs.Math.Bool.{or_comm, or-false}
 use Rattle.std.proofs.lemmas.Option.{slice_get-get_or}
 use Rattle.std.proofs.lemmas.Bool.Decides.{nat_tests}
 use Rattle.line_parts.specs.declared.readings.TypeWord.{TypeWord}
@@ -17,7 +18,7 @@ use Rattle.ir_lines.specs.TextForms.{is_source}
 use Rattle.ir_lines.specs.Parts.{uses, local_name, values_named, targets, entry_labels, functions_named, layouts_named}
 use Rattle.ir_lines.specs.Places.{place_in}
 use Rattle.ir_lines.specs.Sections.{Head, Naming}
-use Rattle.ir_lines.specs.Scope.{Scope, layout_named, head_named, value_named, block_named}
+use Rattle.ir_lines.specs.Scope.{Scope, head_named, value_named}
 use Rattle.ir_lines.specs.Types.{literal_fits, naming_fits, fits}
 use Rattle.ir_lines.specs.Again.{at_name}
 use Rattle.ir_lines.specs.Faults.UnknownName.{names_unknown}
@@ -71,9 +72,9 @@ missing-same name_of xs names e name =
 abbrev misses : List (List ℕ) → List (List ℕ) → Bool
 misses names wanted = list_any (λ name. is_none (place_in names name)) wanted
 
-misses-same : (names : List (List ℕ)) (q : List ℕ → Bool) → ((name : List ℕ) → is_none (place_in names name) ≡ q name)
-    → (wanted : List (List ℕ)) → misses names wanted ≡ list_any q wanted
-misses-same names q h wanted = λ i. list_any (λ name. h name i) wanted
+misses-same : {X : Type 0} (name_of : X → List ℕ) (xs : List X) (names : List (List ℕ)) → names ≡ map name_of xs → (wanted : List (List ℕ))
+    → misses names wanted ≡ list_any (λ name. is_none (find (λ one. bytes_eq name (name_of one)) xs)) wanted
+misses-same name_of xs names e wanted = λ i. list_any (λ name. missing-same name_of xs names e name i) wanted
 
 misses-step : (names : List (List ℕ)) (o : Option (List ℕ)) (more : List (List ℕ)) (rest : Bool) → rest ≡ misses names more
     → (is_missing names o || rest) ≡ misses names (cons_option o more)
@@ -101,52 +102,25 @@ uses-misspelled names lost (one ∷ more) =
     uses-misspelled names (after_use names lost one) more
     ∙ turn (is_outside one.1 one.0) (list_any (λ other. is_outside other.1 other.0) more) lost.misspelled
 
-regroup : (u l f y : Bool) → (y || (f || (l || (u || false)))) ≡ (u || l || f || y)
-regroup true true true true = refl
-regroup true true true false = refl
-regroup true true false true = refl
-regroup true true false false = refl
-regroup true false true true = refl
-regroup true false true false = refl
-regroup true false false true = refl
-regroup true false false false = refl
-regroup false true true true = refl
-regroup false true true false = refl
-regroup false true false true = refl
-regroup false true false false = refl
-regroup false false true true = refl
-regroup false false true false = refl
-regroup false false false true = refl
-regroup false false false false = refl
+-- what is unknown behind names that are looked for among these
+names-behind : {X : Type 0} (name_of : X → List ℕ) (xs : List X) (names : List (List ℕ)) → names ≡ map name_of xs → (wanted : List (List ℕ)) (so_far before : Bool)
+    → so_far ≡ before → after_names names so_far wanted ≡ (before || list_any (λ name. is_none (find (λ one. bytes_eq name (name_of one)) xs)) wanted)
+names-behind name_of xs names e wanted so_far before is =
+    ap (λ b. after_names names b wanted) is
+    ∙ names-any names before wanted
+    ∙ or_comm (misses names wanted) before
+    ∙ ap (λ b. before || b) (misses-same name_of xs names e wanted)
 
 pub unknown-same : (form : Form) (scope : Scope) (tables : Tables) (what : Statement) → AreTables scope tables
     → (after_line form tables nothing_lost what).unknown ≡ names_unknown scope what
 unknown-same form scope tables what t =
-    let values = λ (name : List ℕ). is_none (value_named scope name) in
-    let blocks = λ (name : List ℕ). is_none (block_named scope name) in
-    let heads = λ (name : List ℕ). is_none (head_named scope name) in
-    let layouts = λ (name : List ℕ). is_none (layout_named scope name) in
-    let u = list_any values (values_named what) in
-    let l = list_any blocks (targets what ++ entry_labels what) in
-    let f = list_any heads (functions_named what) in
-    let y = list_any layouts (layouts_named what) in
-    let used : (after_uses tables.values nothing_lost (uses what)).unknown ≡ (u || false)
-    = uses-unknown tables.values nothing_lost (uses what)
-    ∙ ap (λ b. b || false) (misses-filter_map tables.values (λ one. local_name one.0) (uses what)
-    ∙ misses-same tables.values values (missing-same (λ one. one.name) scope.values tables.values t.values) (values_named what)) in
-    let labelled : after_names tables.blocks (after_uses tables.values nothing_lost (uses what)).unknown (targets what ++ entry_labels what) ≡ (l || (u || false))
-    = ap (λ b. after_names tables.blocks b (targets what ++ entry_labels what)) used
-    ∙ names-any tables.blocks (u || false) (targets what ++ entry_labels what)
-    ∙ ap (λ b. b || (u || false)) (misses-same tables.blocks blocks (missing-same (λ one. one.name) scope.blocks tables.blocks t.blocks) (targets what ++ entry_labels what)) in
-    let called : after_names tables.heads (after_names tables.blocks (after_uses tables.values nothing_lost (uses what)).unknown (targets what ++ entry_labels what)) (functions_named what)
-    ≡ (f || (l || (u || false)))
-    = ap (λ b. after_names tables.heads b (functions_named what)) labelled
-    ∙ names-any tables.heads (l || (u || false)) (functions_named what)
-    ∙ ap (λ b. b || (l || (u || false))) (misses-same tables.heads heads (missing-same (λ one. one.name) scope.heads tables.heads t.heads) (functions_named what)) in
-    ap (λ b. after_names tables.layouts b (layouts_named what)) called
-    ∙ names-any tables.layouts (f || (l || (u || false))) (layouts_named what)
-    ∙ ap (λ b. b || (f || (l || (u || false)))) (misses-same tables.layouts layouts (missing-same (λ one. one.name) scope.layouts tables.layouts t.layouts) (layouts_named what))
-    ∙ regroup u l f y
+    names-behind (λ one. one.name) scope.layouts tables.layouts t.layouts (layouts_named what) _ _
+    (names-behind (λ one. one.name) scope.heads tables.heads t.heads (functions_named what) _ _
+    (names-behind (λ one. one.name) scope.blocks tables.blocks t.blocks (targets what ++ entry_labels what) _ _
+    (uses-unknown tables.values nothing_lost (uses what)
+    ∙ or-false (list_any (λ one. is_missing tables.values (local_name one.0)) (uses what))
+    ∙ misses-filter_map tables.values (λ one. local_name one.0) (uses what)
+    ∙ misses-same (λ one. one.name) scope.values tables.values t.values (values_named what))))
 
 -- ---- types
 
@@ -210,20 +184,15 @@ statepoint-same form scope tables t made =
     (head-same scope tables t made.callee)
 
 says-same : (form : Form) (scope : Scope) (tables : Tables) (what : Statement) → AreTables scope tables → says_wrong_in form tables what ≡ says_wrong form scope what
-says-same form scope tables (call result answer callee passed) t = ap not (call-same form scope tables t answer callee passed)
+says-same form scope tables (call result made) t = ap not (call-same form scope tables t made.answer made.callee made.passed)
 says-same form scope tables (statepoint result made live) t = ap not (statepoint-same form scope tables t made)
 says-same form scope tables (cast result op from value to) t = ap not (fits-same scope tables t from value)
 says-same form scope tables _ t = refl
 
-spelled-or : (wrong outside : Bool) → (wrong || (outside || false)) ≡ (outside || wrong)
-spelled-or true true = refl
-spelled-or true false = refl
-spelled-or false true = refl
-spelled-or false false = refl
-
 pub spelled-same : (form : Form) (scope : Scope) (tables : Tables) (what : Statement) → AreTables scope tables
     → (after_line form tables nothing_lost what).misspelled ≡ misspells form scope what
 spelled-same form scope tables what t =
-    ap (λ (b : Bool). says_wrong_in form tables what || b) (uses-misspelled tables.values nothing_lost (uses what))
-    ∙ spelled-or (says_wrong_in form tables what) (list_any (λ used. is_outside used.1 used.0) (uses what))
-    ∙ ap (λ (b : Bool). list_any (λ used. is_outside used.1 used.0) (uses what) || b) (says-same form scope tables what t)
+    let outside = list_any (λ used. is_outside used.1 used.0) (uses what) in
+    ap (λ (b : Bool). says_wrong_in form tables what || b) (uses-misspelled tables.values nothing_lost (uses what) ∙ or-false outside)
+    ∙ or_comm (says_wrong_in form tables what) outside
+    ∙ ap (λ (b : Bool). outside || b) (says-same form scope tables what t)

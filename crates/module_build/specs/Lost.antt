@@ -111,7 +111,7 @@ statepoint_fits form tables made =
 abbrev pub says_wrong_in : Form → Tables → Statement → Bool
 says_wrong_in form tables (select result condition left_ty left right_ty right) = not (same_type left_ty right_ty)
 says_wrong_in form tables (layout_step result named address width index place) = is_below_zero place
-says_wrong_in form tables (call result answer callee passed) = not (call_fits form tables answer callee passed)
+says_wrong_in form tables (call result made) = not (call_fits form tables made.answer made.callee made.passed)
 says_wrong_in form tables (statepoint result made live) = not (statepoint_fits form tables made)
 says_wrong_in form tables (cast result op from value to) = not (fits_in tables.values tables.types from value)
 says_wrong_in form tables _ = false

@@ -104,7 +104,7 @@ good_said form lines func law (store ty value address) after facts behind =
     let a = operand_of known ty value in
     let b = operand_of known Managed address in
     good_store form lines func ty a b (two_values a b (is_value_in known.values ty value) (is_value_in known.values Managed address)) facts.read
-good_said form lines func law (call result answer callee passed) after facts behind = good_call_line form lines func law result answer callee passed facts
+good_said form lines func law (call result called) after facts behind = good_call_line form lines func law result called facts
 good_said form lines func law (jump to) after facts behind =
     good_jump form lines func (label_of (known_of lines func) to) (label_of_use form lines func law to [] facts.labels)
 good_said form lines func law (branch condition on_true on_false) after facts behind =
@@ -285,7 +285,7 @@ result_name n (phi result ty entries) read e = one_name n result ty read.0
 result_name n (scalar_step result element address width index) read e = one_name n result Managed read.0
 result_name n (layout_step result named address width index place) read e = one_name n result Managed read.0
 result_name n (load result ty address) read e = one_name n result ty read.0
-result_name n (call result answer callee passed) read e = call_name n result answer read.0
+result_name n (call result made) read e = call_name n result made.answer read.0
 result_name n (statepoint result made live) read e = one_name n result token_type read.named
 result_name n (gc_result result ty token) read e = one_name n result ty read.0
 result_name n (gc_relocate result token base derived) read e = one_name n result Managed read

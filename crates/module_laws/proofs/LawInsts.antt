@@ -1,6 +1,6 @@
 -- Phis, calls and terminators; and the instruction of any line.
 use Rattle.std.proofs.Common.{◌≡◌, ◌∙◌, ℕ, suc, ◌<◌, true, false, not, List, [], ◌∷◌, map, length, refl, ap, sym, subst, arith}
-use Rattle.std.specs.Prelude.{Option, Some, None, is_none, is_some, option_map, flat_map}
+use Rattle.std.specs.Prelude.{Option, Some, None, IfSome, is_none, is_some, option_map, flat_map}
 use Rattle.std.specs.List.{All, AllByRecursion, list_any, list_all}
 use Rattle.std.proofs.lemmas.List.{length-map}
 use Rattle.std.proofs.lemmas.List.Elements.{All-nil, All-append, All-from_recursion, recursion_from_All}
@@ -23,11 +23,11 @@ use Rattle.line_tokens.specs.declared.literals.Literal.{Literal}
 use Rattle.line_parts.specs.Parts.{Val, is_case_value}
 use Rattle.line_parts.specs.Parts as values
 use Rattle.line_parts.specs.Lists.{Given, given, function}
-use Rattle.ir_lines.specs.Statements.{Line, Statement, layout_step, call, switch, switch_case}
+use Rattle.ir_lines.specs.Statements.{Called, Line, Statement, layout_step, call, switch, switch_case}
 use Rattle.ir_lines.specs.Sections.{Definition, LayoutLine, BlockLines, blocks_of, layouts_of}
 use Rattle.ir_lines.specs.Scope.{scope_of, layout_named, block_named}
 use Rattle.ir_lines.specs.Places.{number_in}
-use Rattle.ir_lines.specs.Modules.{known_of, type_of, layout_of, operand_in, operand_of, entry_operand, entry_label, label_of, passed_operand, given_type, instruction, place_of, block_of, callee_of, case_values, case_labels}
+use Rattle.ir_lines.specs.Modules.{known_of, type_of, layout_of, operand_in, operand_of, entry_operand, entry_label, label_of, passed_operand, given_type, instruction, instruction_said, place_of, block_of, case_values, case_labels}
 use Rattle.ir_lines.specs.Faults.TypeClash.{call_agrees}
 use Rattle.ir_lines.specs.ReadLines.{SaysRead, IsValueType, IsReadCall, IsReadPassed}
 use Rattle.ir_lines.proofs.LawNames.{stands, stands_below, number-is}
@@ -110,21 +110,25 @@ call_width : (result : Option (List ℕ)) (answer : TypeWord) → IsReadCall res
 call_width None answer read = subst (λ (t : TypeWord). All IsWidth (type_widths (type_of t))) (sym read) (All-nil IsWidth)
 call_width (Some result) answer read = type_width answer read.1
 
-call_at : (form : Form) (lines : List Line) (func : Definition) → InLaw form lines func → (result : Option (List ℕ)) (answer : TypeWord) (name : List ℕ) (passed : List Given)
-    → IsReadCall result answer → AllByRecursion IsReadPassed passed → (g : IsGoodCall form lines func name answer passed)
-    → GoodInst form lines func (instruction result (ops.Call g.callee (map given_type passed)) (type_of answer) (map (passed_operand (known_of lines func)) passed) [])
-call_at form lines func law result answer name passed read read_passed g = record {
+abbrev line_made : List Line → Definition → Option (List ℕ) → Called → Callee → Instruction
+line_made lines func result called callee =
+    instruction result (ops.Call callee (map given_type called.passed)) (type_of called.answer) (map (passed_operand (known_of lines func)) called.passed) []
+
+call_at : (form : Form) (lines : List Line) (func : Definition) → InLaw form lines func → (result : Option (List ℕ)) (called : Called)
+    → LineFacts form (scope_of lines func) (call result called)
+    → (g : IsGoodCall form lines func called.callee called.answer called.passed) → GoodInst form lines func (line_made lines func result called g.callee)
+call_at form lines func law result called facts g = record {
   line = record {
-    result = call_result result answer read;
-    type = answers answer;
+    result = call_result result called.answer facts.read.0;
+    type = answers called.answer;
     arguments = g.arguments;
     no_labels = refl;
     bundle = refl;
     leaf = λ _. refl;
   };
   called = record { signature = g.signature; operands = g.takes };
-  widths = widths_made (ops.Call g.callee (map given_type passed)) result (type_of answer) (map (passed_operand (known_of lines func)) passed) []
-      (passed_widths passed read_passed) (call_width result answer read);
+  widths = widths_made (ops.Call g.callee (map given_type called.passed)) result (type_of called.answer) (map (passed_operand (known_of lines func)) called.passed) []
+      (passed_widths called.passed (recursion_from_All IsReadPassed called.passed facts.read.1)) (call_width result called.answer facts.read.0);
   bundle = refl;
   plain = g.helper;
   layouts = g.layouts;
@@ -132,13 +136,13 @@ call_at form lines func law result answer name passed read read_passed g = recor
   labels = All-nil (λ (label : BlockId). label.0 < length (made lines func).blocks);
 }
 
-pub good_call_line : (form : Form) (lines : List Line) (func : Definition) → InLaw form lines func → (result : Option (List ℕ)) (answer : TypeWord) (name : List ℕ) (passed : List Given)
-    → LineFacts form (scope_of lines func) (call result answer name passed)
-    → GoodInst form lines func (instruction result (ops.Call (callee_of (known_of lines func) name) (map given_type passed)) (type_of answer) (map (passed_operand (known_of lines func)) passed) [])
-good_call_line form lines func law result answer name passed facts =
-    let g = good_call form lines func law name answer passed facts.functions (not-false (call_agrees form (scope_of lines func) answer name passed) facts.spelled) facts.read.1 in
-    subst (λ (c : Callee). GoodInst form lines func (instruction result (ops.Call c (map given_type passed)) (type_of answer) (map (passed_operand (known_of lines func)) passed) []))
-    (sym g.is) (call_at form lines func law result answer name passed facts.read.0 (recursion_from_All IsReadPassed passed facts.read.1) g)
+pub good_call_line : (form : Form) (lines : List Line) (func : Definition) → InLaw form lines func → (result : Option (List ℕ)) (called : Called)
+    → LineFacts form (scope_of lines func) (call result called)
+    → IfSome (instruction_said (known_of lines func) [] (call result called)) (GoodInst form lines func)
+good_call_line form lines func law result called facts =
+    let g = good_call form lines func law called.callee called.answer called.passed facts.functions
+    (not-false (call_agrees form (scope_of lines func) called.answer called.callee called.passed) facts.spelled) facts.read.1 in
+    subst (λ (c : Callee). GoodInst form lines func (line_made lines func result called c)) (sym g.is) (call_at form lines func law result called facts g)
 
 -- ---- terminators with labels
 

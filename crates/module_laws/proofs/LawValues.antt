@@ -27,8 +27,8 @@ names_made insts = map definition_name (map outcome (filter (λ inst. is_some in
 
 one_result : (known : Known) (rest : List Line) (n : ℕ) (s : Statement)
     → names_made (insts_said (instruction_said known rest s)) ≡ names_of (result_named n (gives s))
-one_result known rest n (call None answer callee passed) = refl
-one_result known rest n (call (Some result) answer callee passed) = refl
+one_result known rest n (call None made) = refl
+one_result known rest n (call (Some result) made) = refl
 one_result known rest n _ = refl
 
 all_results : (known : Known) (ls : List Line) → names_made (insts_of known ls) ≡ names_of (given_by ls)
@@ -63,12 +63,12 @@ names_given known func =
 -- ---- how many
 
 one_count : (n : ℕ) (s : Statement) → length (result_named n (gives s)) ≤ cond (is_instruction s) 1 0
-one_count n (call None answer callee passed) = omega arith
-one_count n (call (Some result) answer callee passed) = omega arith
+one_count n (call None made) = omega arith
+one_count n (call (Some result) made) = omega arith
 one_count n _ = omega arith
 
 inst_count : (known : Known) (rest : List Line) (s : Statement) → length (insts_said (instruction_said known rest s)) ≤ cond (is_instruction s) 1 0
-inst_count known rest (call result answer callee passed) = omega arith
+inst_count known rest (call result made) = omega arith
 inst_count known rest _ = omega arith
 
 count-cons : (l : Line) (ls : List Line) → instruction_count (l ∷ ls) ≡ cond (is_instruction l.says) 1 0 + instruction_count ls

@@ -142,8 +142,8 @@ store_says names inst = says.store (word_of inst.ty) (value_at names inst.ty ins
 
 abbrev pub call_says : Names → Callee → List Ty → Instruction → Statement
 call_says names callee tys inst =
-    says.call inst.result (word_of inst.ty) (callee_name names callee)
-    (map (λ argument. passed_says names argument.0 argument.1) (zip tys inst.operands))
+    says.call inst.result (says.calling (word_of inst.ty) (callee_name names callee)
+    (map (λ argument. passed_says names argument.0 argument.1) (zip tys inst.operands)))
 
 -- a parameter of a callee; that of a function's name is a plain pointer
 abbrev pub parameter_says : Ty → TypeWord
