@@ -2,7 +2,7 @@
 use Rattle.std.proofs.Common.{◌≡◌, ◌∙◌, ℕ, ◌+◌, ◌<◌, ◌≤◌, Bool, true, false, ◌||◌, List, [], ◌∷◌, ◌++◌, length, get_or, drop, refl, ap, sym}
 use Rattle.std.specs.Prelude.{Option, Some, None, map, filter_map, is_none, option_to_list}
 use Rattle.std.specs.List.{cons_option, list_any}
-use Rattle.line_parts.specs.declared.readings.TypeWord.{TypeWord}
+use Rattle.line_parts.specs.Types.{TypeWord}
 use Rattle.line_parts.specs.declared.readings.Passed.{Passed}
 use Rattle.line_parts.specs.Parts.{Val}
 use Rattle.line_parts.specs.Seen.{seen_passed}

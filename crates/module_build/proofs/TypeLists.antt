@@ -1,6 +1,6 @@
 -- Lists of types of different lengths.
 use Rattle.std.proofs.Common.{◌≡◌, ◌≢◌, Bool, true, false, ◌&&◌, ◌∙◌, List, [], ◌∷◌, length, refl, ap, suc}
-use Rattle.line_parts.specs.declared.readings.TypeWord.{TypeWord}
+use Rattle.line_parts.specs.Types.{TypeWord}
 use Rattle.ir_lines.specs.Types.{same_type, same_types}
 
 and-false : (b : Bool) → false ≡ (b && false)

@@ -2,10 +2,11 @@
 -- the code, names with what stands beside them.
 use Rattle.std.specs.Prelude.{◌≡◌, ℕ, Bool, true, false, not, ◌&&◌, ◌||◌, List, [], ◌∷◌, ◌++◌, map, length, codes, Option, Some, None, is_none}
 use Rattle.std.specs.Str.{bytes_eq}
-use Rattle.line_parts.specs.declared.readings.TypeWord.{TypeWord}
-use Rattle.line_parts.specs.declared.readings.TypeWord.TheVariants.{Int}
+use Rattle.line_parts.specs.Types.{TypeWord}
+use Rattle.line_parts.specs.Types.{Int}
 use Rattle.line_parts.specs.Parts.{Val}
 use Rattle.line_parts.specs.Parts as values
+use Rattle.line_parts.specs.Seen.{seen_type}
 use Rattle.line_parts.specs.Lists.{Given, given, function}
 use Rattle.ir_ast.specs.declared.modules.Form.{Form}
 use Rattle.ir_ast.specs.declared.modules.Form.TheVariants.{Source, Rewritten}
@@ -38,7 +39,7 @@ tables_in scope = record {
   heads = scope.top.now.heads;
   head_list = map seen_head scope.top.now.head_list.items;
   values = scope.local.now.values;
-  types = scope.local.now.types.items;
+  types = map seen_type scope.local.now.types.items;
   blocks = scope.local.now.blocks;
 }
 

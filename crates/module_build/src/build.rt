@@ -3,7 +3,8 @@
 ghost use Rattle.std.specs.Prelude.{◌≡◌, [], ◌∷◌, ◌++◌, map, filter_map, not, option_map, option_to_list, drop, IfOk, OnOk};
 ghost use Rattle.std.specs.Option.{option_copied};
 ghost use Rattle.line_parts.specs.Parts as values;
-ghost use Rattle.line_parts.specs.Seen.{seen_value, seen_entry, seen_passed};
+ghost use Rattle.line_parts.specs.Types.{Int, Managed};
+ghost use Rattle.line_parts.specs.Seen.{seen_type, seen_value, seen_entry, seen_passed};
 ghost use Rattle.ir_lines.specs.Parts.{entry_use, live_use, token_type, token_use, index_use, passed_value, passed_function};
 ghost use Rattle.ir_lines.specs.Statements.{statepoint};
 ghost use Rattle.ir_lines.specs.Places.{number_in};
@@ -25,7 +26,7 @@ use ir_lines::parts::TOKEN;
 use ir_lines::scope::Local;
 use ir_reader::{
     Binary, Conversion, Entry, Literal, NumberedReading, Passed, Reading, StatepointCall, TypeWord,
-    Value,
+    Value, Width,
 };
 use smallvec::SmallVec;
 use sp_ids::{BlockId, FuncId};
@@ -111,15 +112,15 @@ fn binary(
     alloc: Global,
     name: &[u8],
     op: Binary,
-    width: u32,
+    width: Width,
     left: &Value,
     right: &Value,
     insts: &mut Vec<Inst>,
     lost: &mut Lost,
 ) -> Result<(), AllocError>
-    ensures insts { OnOk result (insts.new.items ≡ insts.old.items ++ (instruction (Some name.now) (binary_of op) (Ty.Int width)
-        (operand_in local.now.values (TypeWord.Int width) (seen_value left.now) ∷ operand_in local.now.values (TypeWord.Int width) (seen_value right.now) ∷ []) []) ∷ []) }
-    ensures lost { lost.new ≡ after_uses local.now.values lost.old ((seen_value left.now, TypeWord.Int width) ∷ (seen_value right.now, TypeWord.Int width) ∷ []) }
+    ensures insts { OnOk result (insts.new.items ≡ insts.old.items ++ (instruction (Some name.now) (binary_of op) (Ty.Int width.bits)
+        (operand_in local.now.values (Int width.bits) (seen_value left.now) ∷ operand_in local.now.values (Int width.bits) (seen_value right.now) ∷ []) []) ∷ []) }
+    ensures lost { lost.new ≡ after_uses local.now.values lost.old ((seen_value left.now, Int width.bits) ∷ (seen_value right.now, Int width.bits) ∷ []) }
 {
     let ty = TypeWord::Int(width);
     let operands = [
@@ -148,9 +149,9 @@ fn compare(
     insts: &mut Vec<Inst>,
     lost: &mut Lost,
 ) -> Result<(), AllocError>
-    ensures insts { OnOk result (insts.new.items ≡ insts.old.items ++ (instruction (Some name.now) (Op.Icmp pred) (type_of ty)
-        (operand_in local.now.values ty (seen_value left.now) ∷ operand_in local.now.values ty (seen_value right.now) ∷ []) []) ∷ []) }
-    ensures lost { lost.new ≡ after_uses local.now.values lost.old ((seen_value left.now, ty) ∷ (seen_value right.now, ty) ∷ []) }
+    ensures insts { OnOk result (insts.new.items ≡ insts.old.items ++ (instruction (Some name.now) (Op.Icmp pred) (type_of (seen_type ty))
+        (operand_in local.now.values (seen_type ty) (seen_value left.now) ∷ operand_in local.now.values (seen_type ty) (seen_value right.now) ∷ []) []) ∷ []) }
+    ensures lost { lost.new ≡ after_uses local.now.values lost.old ((seen_value left.now, seen_type ty) ∷ (seen_value right.now, seen_type ty) ∷ []) }
 {
     let operands = [
         operand(local, ty, left, lost),
@@ -165,22 +166,22 @@ fn convert(
     alloc: Global,
     name: &[u8],
     op: Conversion,
-    width: u32,
+    width: Width,
     value: &Value,
-    to: u32,
+    to: Width,
     insts: &mut Vec<Inst>,
     lost: &mut Lost,
 ) -> Result<(), AllocError>
-    ensures insts { OnOk result (insts.new.items ≡ insts.old.items ++ (instruction (Some name.now) (conversion_of op to) (Ty.Int width)
-        (operand_in local.now.values (TypeWord.Int width) (seen_value value.now) ∷ []) []) ∷ []) }
-    ensures lost { lost.new ≡ after_uses local.now.values lost.old ((seen_value value.now, TypeWord.Int width) ∷ []) }
+    ensures insts { OnOk result (insts.new.items ≡ insts.old.items ++ (instruction (Some name.now) (conversion_of op to.bits) (Ty.Int width.bits)
+        (operand_in local.now.values (Int width.bits) (seen_value value.now) ∷ []) []) ∷ []) }
+    ensures lost { lost.new ≡ after_uses local.now.values lost.old ((seen_value value.now, Int width.bits) ∷ []) }
 {
     let ty = TypeWord::Int(width);
     let operands = [operand(local, ty, value, lost)];
     push_inst(
         alloc,
         Some(name),
-        conversion_of(op, to),
+        conversion_of(op, to.bits),
         type_of(ty),
         &operands,
         &[],
@@ -200,14 +201,14 @@ fn select(
     insts: &mut Vec<Inst>,
     lost: &mut Lost,
 ) -> Result<(), AllocError>
-    ensures insts { OnOk result (insts.new.items ≡ insts.old.items ++ (instruction (Some name.now) Op.Select (type_of left_ty)
-        (operand_in local.now.values (TypeWord.Int 1) (seen_value condition.now) ∷ operand_in local.now.values left_ty (seen_value left.now)
-        ∷ operand_in local.now.values right_ty (seen_value right.now) ∷ []) []) ∷ []) }
-    ensures lost { lost.new ≡ after_spelling (not (same_type left_ty right_ty)) (after_uses local.now.values lost.old
-        ((seen_value condition.now, TypeWord.Int 1) ∷ (seen_value left.now, left_ty) ∷ (seen_value right.now, right_ty) ∷ [])) }
+    ensures insts { OnOk result (insts.new.items ≡ insts.old.items ++ (instruction (Some name.now) Op.Select (type_of (seen_type left_ty))
+        (operand_in local.now.values (Int 1) (seen_value condition.now) ∷ operand_in local.now.values (seen_type left_ty) (seen_value left.now)
+        ∷ operand_in local.now.values (seen_type right_ty) (seen_value right.now) ∷ []) []) ∷ []) }
+    ensures lost { lost.new ≡ after_spelling (not (same_type (seen_type left_ty) (seen_type right_ty))) (after_uses local.now.values lost.old
+        ((seen_value condition.now, Int 1) ∷ (seen_value left.now, seen_type left_ty) ∷ (seen_value right.now, seen_type right_ty) ∷ [])) }
 {
     let operands = [
-        operand(local, TypeWord::Int(1), condition, lost),
+        operand(local, TypeWord::Int(Width { bits: 1 }), condition, lost),
         operand(local, left_ty, left, lost),
         operand(local, right_ty, right, lost),
     ];
@@ -229,14 +230,14 @@ fn step(
     name: &[u8],
     op: Op,
     address: &Value,
-    width: u32,
+    width: Width,
     index: &Value,
     insts: &mut Vec<Inst>,
     lost: &mut Lost,
 ) -> Result<(), AllocError>
     ensures insts { OnOk result (insts.new.items ≡ insts.old.items ++ (instruction (Some name.now) op Ty.Ptr
-        (operand_in local.now.values TypeWord.Managed (seen_value address.now) ∷ operand_in local.now.values (TypeWord.Int width) (seen_value index.now) ∷ []) []) ∷ []) }
-    ensures lost { lost.new ≡ after_uses local.now.values lost.old ((seen_value address.now, TypeWord.Managed) ∷ (seen_value index.now, TypeWord.Int width) ∷ []) }
+        (operand_in local.now.values Managed (seen_value address.now) ∷ operand_in local.now.values (Int width.bits) (seen_value index.now) ∷ []) []) ∷ []) }
+    ensures lost { lost.new ≡ after_uses local.now.values lost.old ((seen_value address.now, Managed) ∷ (seen_value index.now, Int width.bits) ∷ []) }
 {
     let operands = [
         operand(local, TypeWord::Managed, address, lost),
@@ -251,18 +252,18 @@ fn scalar_step(
     name: &[u8],
     element: TypeWord,
     address: &Value,
-    width: u32,
+    width: Width,
     index: &Value,
     insts: &mut Vec<Inst>,
     lost: &mut Lost,
 ) -> Result<(), AllocError>
-    ensures insts { OnOk result (insts.new.items ≡ insts.old.items ++ (instruction (Some name.now) (Op.Gep (element_of element) width None) Ty.Ptr
-        (operand_in local.now.values TypeWord.Managed (seen_value address.now) ∷ operand_in local.now.values (TypeWord.Int width) (seen_value index.now) ∷ []) []) ∷ []) }
-    ensures lost { lost.new ≡ after_uses local.now.values lost.old ((seen_value address.now, TypeWord.Managed) ∷ (seen_value index.now, TypeWord.Int width) ∷ []) }
+    ensures insts { OnOk result (insts.new.items ≡ insts.old.items ++ (instruction (Some name.now) (Op.Gep (element_of (seen_type element)) width.bits None) Ty.Ptr
+        (operand_in local.now.values Managed (seen_value address.now) ∷ operand_in local.now.values (Int width.bits) (seen_value index.now) ∷ []) []) ∷ []) }
+    ensures lost { lost.new ≡ after_uses local.now.values lost.old ((seen_value address.now, Managed) ∷ (seen_value index.now, Int width.bits) ∷ []) }
 {
     let op = Op::Gep {
         elem: element_of(element),
-        index_width: width,
+        index_width: width.bits,
         place: None,
     };
     step(local, alloc, name, op, address, width, index, insts, lost)
@@ -277,9 +278,9 @@ fn load(
     insts: &mut Vec<Inst>,
     lost: &mut Lost,
 ) -> Result<(), AllocError>
-    ensures insts { OnOk result (insts.new.items ≡ insts.old.items ++ (instruction (Some name.now) Op.Load (type_of ty)
-        (operand_in local.now.values TypeWord.Managed (seen_value address.now) ∷ []) []) ∷ []) }
-    ensures lost { lost.new ≡ after_uses local.now.values lost.old ((seen_value address.now, TypeWord.Managed) ∷ []) }
+    ensures insts { OnOk result (insts.new.items ≡ insts.old.items ++ (instruction (Some name.now) Op.Load (type_of (seen_type ty))
+        (operand_in local.now.values Managed (seen_value address.now) ∷ []) []) ∷ []) }
+    ensures lost { lost.new ≡ after_uses local.now.values lost.old ((seen_value address.now, Managed) ∷ []) }
 {
     let operands = [operand(local, TypeWord::Managed, address, lost)];
     push_inst(
@@ -302,9 +303,9 @@ fn store(
     insts: &mut Vec<Inst>,
     lost: &mut Lost,
 ) -> Result<(), AllocError>
-    ensures insts { OnOk result (insts.new.items ≡ insts.old.items ++ (instruction None Op.Store (type_of ty)
-        (operand_in local.now.values ty (seen_value value.now) ∷ operand_in local.now.values TypeWord.Managed (seen_value address.now) ∷ []) []) ∷ []) }
-    ensures lost { lost.new ≡ after_uses local.now.values lost.old ((seen_value value.now, ty) ∷ (seen_value address.now, TypeWord.Managed) ∷ []) }
+    ensures insts { OnOk result (insts.new.items ≡ insts.old.items ++ (instruction None Op.Store (type_of (seen_type ty))
+        (operand_in local.now.values (seen_type ty) (seen_value value.now) ∷ operand_in local.now.values Managed (seen_value address.now) ∷ []) []) ∷ []) }
+    ensures lost { lost.new ≡ after_uses local.now.values lost.old ((seen_value value.now, seen_type ty) ∷ (seen_value address.now, Managed) ∷ []) }
 {
     let operands = [
         operand(local, ty, value, lost),
@@ -322,10 +323,10 @@ fn phi(
     insts: &mut Vec<Inst>,
     lost: &mut Lost,
 ) -> Result<(), AllocError>
-    ensures insts { OnOk result (insts.new.items ≡ insts.old.items ++ (instruction (Some name.now) Op.Phi (type_of ty)
-        (map (entry_operand local.now.values ty) (map seen_entry entries.now)) (map (entry_label local.now.blocks) (map seen_entry entries.now))) ∷ []) }
+    ensures insts { OnOk result (insts.new.items ≡ insts.old.items ++ (instruction (Some name.now) Op.Phi (type_of (seen_type ty))
+        (map (entry_operand local.now.values (seen_type ty)) (map seen_entry entries.now)) (map (entry_label local.now.blocks) (map seen_entry entries.now))) ∷ []) }
     ensures lost { OnOk result (lost.new ≡ after_named local.now.blocks (map (λ entry. entry.1) (map seen_entry entries.now))
-        (after_uses local.now.values lost.old (map (entry_use ty) (map seen_entry entries.now)))) }
+        (after_uses local.now.values lost.old (map (entry_use (seen_type ty)) (map seen_entry entries.now)))) }
 {
     let mut operands: Operands = SmallVec::new(alloc);
     let mut labels = SmallVec::new(alloc);
@@ -365,12 +366,12 @@ fn branch(
     lost: &mut Lost,
 ) -> Result<(), AllocError>
     ensures insts { OnOk result (insts.new.items ≡ insts.old.items ++ (instruction None Op.CondBr (Ty.Int 1)
-        (operand_in local.now.values (TypeWord.Int 1) (seen_value condition.now) ∷ [])
+        (operand_in local.now.values (Int 1) (seen_value condition.now) ∷ [])
         (label_in local.now.blocks on_true.now ∷ label_in local.now.blocks on_false.now ∷ [])) ∷ []) }
     ensures lost { lost.new ≡ after_named local.now.blocks (on_true.now ∷ on_false.now ∷ [])
-        (after_uses local.now.values lost.old ((seen_value condition.now, TypeWord.Int 1) ∷ [])) }
+        (after_uses local.now.values lost.old ((seen_value condition.now, Int 1) ∷ [])) }
 {
-    let operands = [operand(local, TypeWord::Int(1), condition, lost)];
+    let operands = [operand(local, TypeWord::Int(Width { bits: 1 }), condition, lost)];
     let labels = [label(local, on_true, lost), label(local, on_false, lost)];
     push_inst(
         alloc,
@@ -391,8 +392,8 @@ fn ret(
     insts: &mut Vec<Inst>,
     lost: &mut Lost,
 ) -> Result<(), AllocError>
-    ensures insts { OnOk result (insts.new.items ≡ insts.old.items ++ (instruction None Op.Ret (type_of ty) (operand_in local.now.values ty (seen_value value.now) ∷ []) []) ∷ []) }
-    ensures lost { lost.new ≡ after_uses local.now.values lost.old ((seen_value value.now, ty) ∷ []) }
+    ensures insts { OnOk result (insts.new.items ≡ insts.old.items ++ (instruction None Op.Ret (type_of (seen_type ty)) (operand_in local.now.values (seen_type ty) (seen_value value.now) ∷ []) []) ∷ []) }
+    ensures lost { lost.new ≡ after_uses local.now.values lost.old ((seen_value value.now, seen_type ty) ∷ []) }
 {
     let operands = [operand(local, ty, value, lost)];
     push_inst(alloc, None, Op::Ret, type_of(ty), &operands, &[], insts)
@@ -407,7 +408,7 @@ fn gc_result(
     insts: &mut Vec<Inst>,
     lost: &mut Lost,
 ) -> Result<(), AllocError>
-    ensures insts { OnOk result (insts.new.items ≡ insts.old.items ++ (instruction (Some name.now) Op.GcResult (type_of answer)
+    ensures insts { OnOk result (insts.new.items ≡ insts.old.items ++ (instruction (Some name.now) Op.GcResult (type_of (seen_type answer))
         (operand_in local.now.values token_type (values.local token.entry.bytes.now) ∷ []) []) ∷ []) }
     ensures lost { lost.new ≡ after_uses local.now.values lost.old (token_use token.entry.bytes.now ∷ []) }
 {
@@ -435,11 +436,11 @@ fn gc_relocate(
 ) -> Result<(), AllocError>
     ensures insts { OnOk result (insts.new.items ≡ insts.old.items ++ (instruction (Some name.now) Op.GcRelocate Ty.Ptr
         (operand_in local.now.values token_type (values.local token.entry.bytes.now)
-        ∷ operand_in local.now.values (TypeWord.Int 32) (values.number base)
-        ∷ operand_in local.now.values (TypeWord.Int 32) (values.number derived) ∷ []) []) ∷ []) }
+        ∷ operand_in local.now.values (Int 32) (values.number base)
+        ∷ operand_in local.now.values (Int 32) (values.number derived) ∷ []) []) ∷ []) }
     ensures lost { lost.new ≡ after_uses local.now.values lost.old (token_use token.entry.bytes.now ∷ index_use base ∷ index_use derived ∷ []) }
 {
-    let index = TypeWord::Int(32);
+    let index = TypeWord::Int(Width { bits: 32 });
     let operands = [
         operand(local, TOKEN, &Value::Local(token), lost),
         operand(local, index, &Value::Number(base), lost),
@@ -460,18 +461,18 @@ fn gc_relocate(
 fn switch(
     local: &Local,
     alloc: Global,
-    width: u32,
+    width: Width,
     value: &Value,
     default: &[u8],
     behind: &[NumberedReading],
     insts: &mut Vec<Inst>,
     lost: &mut Lost,
 ) -> Result<(), AllocError>
-    ensures insts { OnOk result (insts.new.items ≡ insts.old.items ++ (instruction None Op.Switch (Ty.Int width)
-        (operand_in local.now.values (TypeWord.Int width) (seen_value value.now) ∷ case_values local.now.values width (seen_lines behind.now))
+    ensures insts { OnOk result (insts.new.items ≡ insts.old.items ++ (instruction None Op.Switch (Ty.Int width.bits)
+        (operand_in local.now.values (Int width.bits) (seen_value value.now) ∷ case_values local.now.values width.bits (seen_lines behind.now))
         (label_in local.now.blocks default.now ∷ case_labels local.now.blocks (seen_lines behind.now))) ∷ []) }
     ensures lost { OnOk result (lost.new ≡ after_named local.now.blocks (default.now ∷ [])
-        (after_uses local.now.values lost.old ((seen_value value.now, TypeWord.Int width) ∷ []))) }
+        (after_uses local.now.values lost.old ((seen_value value.now, Int width.bits) ∷ []))) }
 {
     let ty = TypeWord::Int(width);
     let mut operands: Operands = SmallVec::new(alloc);
@@ -491,8 +492,8 @@ fn switch(
 }
 
 // A case of a `switch`, which is no instruction by itself.
-fn case(local: &Local, width: u32, value: &Value, to: &[u8], lost: &mut Lost)
-    ensures { lost.new ≡ after_named local.now.blocks (to.now ∷ []) (after_uses local.now.values lost.old ((seen_value value.now, TypeWord.Int width) ∷ [])) }
+fn case(local: &Local, width: Width, value: &Value, to: &[u8], lost: &mut Lost)
+    ensures { lost.new ≡ after_named local.now.blocks (to.now ∷ []) (after_uses local.now.values lost.old ((seen_value value.now, Int width.bits) ∷ [])) }
 {
     operand(local, TypeWord::Int(width), value, lost);
     label(local, to, lost);
@@ -560,9 +561,9 @@ impl Scope<'_, '_, '_, '_> {
         lost: &mut Lost,
     ) -> Result<(), AllocError>
         ensures insts { OnOk result (insts.new.items ≡ insts.old.items ++ (instruction (option_copied name.entry)
-            (Op.Call (callee_of (known_in self.now) callee.now) (map given_type (map seen_passed passed.now))) (type_of answer)
+            (Op.Call (callee_of (known_in self.now) callee.now) (map given_type (map seen_passed passed.now))) (type_of (seen_type answer))
             (map (passed_operand (known_in self.now)) (map seen_passed passed.now)) []) ∷ []) }
-        ensures lost { OnOk result (lost.new ≡ after_spelling (not (call_fits self.now.form (tables_in self.now) answer callee.now (map seen_passed passed.now)))
+        ensures lost { OnOk result (lost.new ≡ after_spelling (not (call_fits self.now.form (tables_in self.now) (seen_type answer) callee.now (map seen_passed passed.now)))
             (after_named self.now.top.now.heads (callee.now ∷ filter_map passed_function (map seen_passed passed.now))
             (after_uses self.now.local.now.values lost.old (filter_map passed_value (map seen_passed passed.now))))) }
     {
@@ -591,9 +592,9 @@ impl Scope<'_, '_, '_, '_> {
         insts: &mut Vec<Inst>,
         lost: &mut Lost,
     ) -> Result<(), AllocError>
-        ensures insts { OnOk result (insts.new.items ≡ insts.old.items ++ (instruction (Some name.now) (Op.Call (callee_of (known_in self.now) []) []) (type_of to) [] []) ∷ []) }
-        ensures lost { lost.new ≡ after_spelling (not (fits_in self.now.local.now.values self.now.local.now.types.items from (seen_value value.now)))
-            (after_uses self.now.local.now.values lost.old ((seen_value value.now, from) ∷ [])) }
+        ensures insts { OnOk result (insts.new.items ≡ insts.old.items ++ (instruction (Some name.now) (Op.Call (callee_of (known_in self.now) []) []) (type_of (seen_type to)) [] []) ∷ []) }
+        ensures lost { lost.new ≡ after_spelling (not (fits_in self.now.local.now.values (map seen_type self.now.local.now.types.items) (seen_type from) (seen_value value.now)))
+            (after_uses self.now.local.now.values lost.old ((seen_value value.now, seen_type from) ∷ [])) }
     {
         operand(self.local, from, value, lost);
         lost.misspelled = !fits(self.local, from, value) || lost.misspelled;
@@ -611,16 +612,16 @@ impl Scope<'_, '_, '_, '_> {
         layout: &[u8],
         place: Option<Literal>,
         address: &Value,
-        width: u32,
+        width: Width,
         index: &Value,
         insts: &mut Vec<Inst>,
         lost: &mut Lost,
     ) -> Result<(), AllocError>
         ensures insts { OnOk result (insts.new.items ≡ insts.old.items ++ (instruction (Some name.now)
-            (Op.Gep (Elem.Layout (number_in self.now.top.now.layouts layout.now)) width (option_map place_of place)) Ty.Ptr
-            (operand_in self.now.local.now.values TypeWord.Managed (seen_value address.now) ∷ operand_in self.now.local.now.values (TypeWord.Int width) (seen_value index.now) ∷ []) []) ∷ []) }
+            (Op.Gep (Elem.Layout (number_in self.now.top.now.layouts layout.now)) width.bits (option_map place_of place)) Ty.Ptr
+            (operand_in self.now.local.now.values Managed (seen_value address.now) ∷ operand_in self.now.local.now.values (Int width.bits) (seen_value index.now) ∷ []) []) ∷ []) }
         ensures lost { lost.new ≡ after_spelling (is_below_zero place) (after_named self.now.top.now.layouts (layout.now ∷ [])
-            (after_uses self.now.local.now.values lost.old ((seen_value address.now, TypeWord.Managed) ∷ (seen_value index.now, TypeWord.Int width) ∷ []))) }
+            (after_uses self.now.local.now.values lost.old ((seen_value address.now, Managed) ∷ (seen_value index.now, Int width.bits) ∷ []))) }
     {
         let operands = [
             operand(self.local, TypeWord::Managed, address, lost),
@@ -628,7 +629,7 @@ impl Scope<'_, '_, '_, '_> {
         ];
         let op = Op::Gep {
             elem: Elem::Layout(self.layout(layout, lost)),
-            index_width: width,
+            index_width: width.bits,
             place: place_if_any(place),
         };
         lost.misspelled = is_below_zero(place) || lost.misspelled;

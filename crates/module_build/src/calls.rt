@@ -3,7 +3,8 @@
 ghost use Rattle.std.specs.Prelude.{◌≡◌, ◌||◌, ◌&&◌, ◌∷◌, codes, not, map, filter_map, option_map, slice_get};
 ghost use Rattle.std.specs.Option.{option_and_then};
 ghost use Rattle.std.specs.Str.{bytes_eq};
-ghost use Rattle.line_parts.specs.Seen.{seen_argument, seen_passed, seen_value};
+ghost use Rattle.line_parts.specs.Types.{Int};
+ghost use Rattle.line_parts.specs.Seen.{seen_type, seen_argument, seen_passed, seen_value};
 ghost use Rattle.module_build.specs.Lost.{tables_in, is_missing, after_names, after_named, after_spelling, starts_at, task_starts, operands_fit, call_fits, statepoint_fits};
 ghost use Rattle.ir_lines.specs.Modules.{passed_type};
 ghost use Rattle.ir_lines.specs.Parts.{passed_function};
@@ -48,13 +49,13 @@ fn is_unknown(names: &Names, one: &Passed) -> bool
 
 /// Whether the parameters have these types.
 pub fn has_types(parameters: &[Argument], types: &[TypeWord]) -> bool
-    ensures { result ≡ same_types (types_of (map seen_argument parameters.now)) types.now }
+    ensures { result ≡ same_types (types_of (map seen_argument parameters.now)) (map seen_type types.now) }
 {
     if parameters.len() != types.len() {
         return false;
     }
     for (parameter, ty) in parameters.iter().zip(types.iter()) {
-        if parameter.ty != *ty {
+        if !same_type(parameter.ty, *ty) {
             return false;
         }
     }
@@ -92,7 +93,7 @@ fn is_task(head: Option<&Head>) -> bool
 
 // Whether a call has the types of what the head of its callee says.
 fn agrees(answer: TypeWord, passed: &[Passed], head: Option<&Head>) -> bool
-    ensures { result ≡ agrees answer (map seen_passed passed.now) (option_map (λ one. seen_head one.now) head.entry) }
+    ensures { result ≡ agrees (seen_type answer) (map seen_passed passed.now) (option_map (λ one. seen_head one.now) head.entry) }
 {
     match head {
         Some(head) => same_type(answer, head.answer) && same_types(passed, head.parameters),
@@ -102,7 +103,7 @@ fn agrees(answer: TypeWord, passed: &[Passed], head: Option<&Head>) -> bool
 
 // Whether these are the types of the head's parameters.
 fn takes_types(types: &[TypeWord], head: Option<&Head>) -> bool
-    ensures { result ≡ takes_types types.now (option_map (λ one. seen_head one.now) head.entry) }
+    ensures { result ≡ takes_types (map seen_type types.now) (option_map (λ one. seen_head one.now) head.entry) }
 {
     match head {
         Some(head) => are_types_of(types, head.parameters),
@@ -111,7 +112,7 @@ fn takes_types(types: &[TypeWord], head: Option<&Head>) -> bool
 }
 
 fn are_types_of(types: &[TypeWord], parameters: &[Argument]) -> bool
-    ensures { result ≡ same_types types.now (types_of (map seen_argument parameters.now)) }
+    ensures { result ≡ same_types (map seen_type types.now) (types_of (map seen_argument parameters.now)) }
 {
     if types.len() != parameters.len() {
         return false;
@@ -212,7 +213,7 @@ impl Scope<'_, '_, '_, '_> {
         callee: &[u8],
         passed: &[Passed],
     ) -> bool
-        ensures { result ≡ (agrees answer (map seen_passed passed.now) (option_map (λ one. seen_head one.now) head.entry)
+        ensures { result ≡ (agrees (seen_type answer) (map seen_passed passed.now) (option_map (λ one. seen_head one.now) head.entry)
             && operands_fit self.now.form (tables_in self.now) callee.now (map seen_passed passed.now)) }
     {
         agrees(answer, passed, head) && self.takes_operands(callee, passed)
@@ -226,7 +227,7 @@ impl Scope<'_, '_, '_, '_> {
         passed: &[Passed],
         lost: &mut Lost,
     )
-        ensures { lost.new ≡ after_spelling (not (call_fits self.now.form (tables_in self.now) answer callee.now (map seen_passed passed.now)))
+        ensures { lost.new ≡ after_spelling (not (call_fits self.now.form (tables_in self.now) (seen_type answer) callee.now (map seen_passed passed.now)))
             (after_named self.now.top.now.heads (callee.now ∷ filter_map passed_function (map seen_passed passed.now)) lost.old) }
     {
         let heads = &self.top.heads;
@@ -242,7 +243,7 @@ impl Scope<'_, '_, '_, '_> {
         ensures { result ≡ (agrees (seen_guarded call.now).signature.answer (seen_guarded call.now).passed (option_map (λ one. seen_head one.now) head.entry)
             && operands_fit self.now.form (tables_in self.now) (seen_guarded call.now).callee (seen_guarded call.now).passed
             && (takes_types (seen_guarded call.now).signature.parameters (option_map (λ one. seen_head one.now) head.entry)
-            && literal_fits (TypeWord.Int 32) (seen_guarded call.now).count)) }
+            && literal_fits (Int 32) (seen_guarded call.now).count)) }
     {
         self.call_agrees(
             head,
@@ -272,7 +273,7 @@ impl Scope<'_, '_, '_, '_> {
 // What a statepoint asks besides the call: the callee's type, and a number of arguments of `i32`.
 fn spells_type(head: Option<&Head>, call: &StatepointCall) -> bool
     ensures { result ≡ (takes_types (seen_guarded call.now).signature.parameters (option_map (λ one. seen_head one.now) head.entry)
-        && literal_fits (TypeWord.Int 32) (seen_guarded call.now).count) }
+        && literal_fits (Int 32) (seen_guarded call.now).count) }
 {
     takes_types(call.function_type.parameters.as_slice(), head) && is_within(32, call.count)
 }

@@ -1,7 +1,7 @@
 //! The arguments and layouts that lines stand for.
 
 ghost use Rattle.std.specs.Prelude.{◌≡◌, [], ◌++◌, map, IfOk, OnOk};
-ghost use Rattle.line_parts.specs.Seen.{seen_argument};
+ghost use Rattle.line_parts.specs.Seen.{seen_type, seen_argument};
 ghost use Rattle.ir_lines.specs.Sections.{arguments_named, layout_said, layouts_of};
 ghost use Rattle.ir_lines.specs.Modules.{argument_of, layout_of, cell_of};
 ghost use Rattle.ir_lines.specs.Views.{said, seen_lines};
@@ -34,19 +34,23 @@ pub fn arguments_of(
 }
 
 fn cell_of(ty: TypeWord) -> Cell
-    ensures { result ≡ cell_of ty }
+    ensures { result ≡ cell_of (seen_type ty) }
 {
     Cell::of(&type_of(ty)).unwrap_or(Cell::I64)
 }
 
 fn cells_of(alloc: Global, fields: &[TypeWord]) -> Result<Vec<Cell>, AllocError>
-    ensures { IfOk result (λ cells. cells.items ≡ map cell_of fields.now) }
+    ensures { IfOk result (λ cells. cells.items ≡ map cell_of (map seen_type fields.now)) }
 {
-    fields.iter().map(|field| cell_of(*field)).collect(alloc)
+    let mut cells = Vec::with_capacity(alloc, fields.len())?;
+    for field in fields {
+        cells.push(cell_of(*field))?;
+    }
+    Ok(cells)
 }
 
 fn layout_of(alloc: Global, name: &[u8], fields: &[TypeWord]) -> Result<Layout, AllocError>
-    ensures { IfOk result (λ made. made ≡ record { name = name.now; fields = map cell_of fields.now }) }
+    ensures { IfOk result (λ made. made ≡ record { name = name.now; fields = map cell_of (map seen_type fields.now) }) }
 {
     let cells = cells_of(alloc, fields)?;
     let name = owned(alloc, name)?;

@@ -1,7 +1,7 @@
 //! What a line loses by the names and the literals that it uses.
 
 ghost use Rattle.std.specs.Prelude.{◌≡◌, ◌||◌, is_none};
-ghost use Rattle.line_parts.specs.Seen.{seen_value};
+ghost use Rattle.line_parts.specs.Seen.{seen_type, seen_value};
 ghost use Rattle.ir_lines.specs.Modules.{operand_in, label_in};
 ghost use Rattle.ir_lines.specs.Places.{place_in};
 ghost use Rattle.module_build.specs.Lost.{after_use, nothing_lost};
@@ -11,7 +11,7 @@ use ir_ast::Operand;
 use ir_lines::literals::same_type;
 use ir_lines::names::number_of;
 use ir_lines::scope::Local;
-use ir_reader::{TypeWord, Value};
+use ir_reader::{TypeWord, Value, Width};
 use sp_ids::{BlockId, ValueId};
 
 /// What a line loses by its parts.
@@ -42,8 +42,8 @@ pub(crate) fn add_unknown(unknown: bool, lost: &mut Lost)
 
 /// The operand that a value of this type stands for.
 pub(crate) fn operand(local: &Local, ty: TypeWord, value: &Value, lost: &mut Lost) -> Operand
-    ensures operand { result ≡ operand_in local.now.values ty (seen_value value.now) }
-    ensures lost { lost.new ≡ after_use local.now.values lost.old (seen_value value.now, ty) }
+    ensures operand { result ≡ operand_in local.now.values (seen_type ty) (seen_value value.now) }
+    ensures lost { lost.new ≡ after_use local.now.values lost.old (seen_value value.now, seen_type ty) }
 {
     match value {
         Value::Local(name) => {
@@ -56,7 +56,7 @@ pub(crate) fn operand(local: &Local, ty: TypeWord, value: &Value, lost: &mut Los
             local.operand(ty, value)
         }
         Value::Truth(_) => {
-            lost.misspelled = !same_type(ty, TypeWord::Int(1)) || lost.misspelled;
+            lost.misspelled = !same_type(ty, TypeWord::Int(Width { bits: 1 })) || lost.misspelled;
             local.operand(ty, value)
         }
         Value::Null => Operand::Null,

@@ -6,8 +6,8 @@ use Rattle.std.proofs.lemmas.Bool.{and_from, le-leb}
 use Rattle.sp_text.specs.Tokens.{Tok, tok, bad, over, is_name, is_numeral}
 use Rattle.sp_text.specs.declared.tokens.Kind.TheVariants as kinds
 use Rattle.ir_ast.specs.declared.ops.Pred.{Pred}
-use Rattle.line_parts.specs.declared.readings.TypeWord.{TypeWord}
-use Rattle.line_parts.specs.declared.readings.TypeWord.TheVariants as types
+use Rattle.line_parts.specs.Types.{TypeWord}
+use Rattle.line_parts.specs.Types as types
 use Rattle.line_parts.specs.Gives.{Found, after, one_at, with_rest, noted, one_noted_at}
 use Rattle.line_tokens.specs.declared.words.Dropped.TheVariants as drops
 use Rattle.line_tokens.specs.declared.literals.Literal.{Literal}

@@ -4,7 +4,7 @@ use Rattle.std.specs.Prelude.{decimal, flat_map, take_while, slice_get, unwrap_o
 use Rattle.std.proofs.lemmas.List.Sums.{take_while-cons}
 use Rattle.ir_reader.specs.declared.states.Place.{Place}
 use Rattle.ir_reader.specs.declared.states.Place.TheVariants as places
-use Rattle.line_parts.specs.declared.readings.TypeWord.{TypeWord}
+use Rattle.line_parts.specs.Types.{TypeWord}
 use Rattle.line_parts.specs.Lists.{Named}
 use Rattle.ir_ast.specs.declared.modules.Form.{Form}
 use Rattle.ir_ast.specs.Insts.{Instruction}

@@ -2,7 +2,7 @@
 use Rattle.std.proofs.Common.{◌≡◌, ℕ, suc, true, List, [], ◌∷◌, length, refl, ap}
 use Rattle.std.specs.List.{AllByRecursion}
 use Rattle.ir_ast.specs.declared.ops.Operand.{Operand}
-use Rattle.line_parts.specs.declared.readings.TypeWord.TheVariants.{Int}
+use Rattle.line_parts.specs.Types.{Int}
 use Rattle.line_parts.specs.Parts.{Val, is_case_value}
 use Rattle.ir_lines.specs.Statements.{Line, Statement, switch_case}
 use Rattle.ir_lines.specs.Modules.{operand_in, case_values, case_labels}

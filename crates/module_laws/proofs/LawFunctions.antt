@@ -32,8 +32,8 @@ use Rattle.ir_ast.specs.Bundles.{HasNoBundle}
 use Rattle.ir_cfg.specs.Limits.{IsName, HasNames}
 use Rattle.std.specs.Fmt.{digits}
 use Rattle.sp_text.specs.Tokens.{is_name}
-use Rattle.line_parts.specs.declared.readings.TypeWord.{TypeWord}
-use Rattle.line_parts.specs.declared.readings.TypeWord.TheVariants.{Int, Managed}
+use Rattle.line_parts.specs.Types.{TypeWord}
+use Rattle.line_parts.specs.Types.{Int, Managed}
 use Rattle.line_parts.specs.Lists.{Named}
 use Rattle.ir_lines.specs.Statements.{Line, Statement, label, binary, compare, convert, select, phi, scalar_step, layout_step, load, store, call, jump, branch, switch, ret_void, ret, unreachable, cast, statepoint, gc_result, gc_relocate}
 use Rattle.ir_lines.specs.Parts.{gives, token_type}

@@ -22,8 +22,8 @@ use Rattle.ir_ast.specs.Operands.{is_value, functions_named as functions_in}
 use Rattle.ir_ast.specs.Widths.{IsWidth}
 use Rattle.ir_ast.specs.Scope.{Scope as ModuleScope}
 use Rattle.ir_ast.specs.Faults.TypeClash.{TakesOperands}
-use Rattle.line_parts.specs.declared.readings.TypeWord.{TypeWord}
-use Rattle.line_parts.specs.declared.readings.TypeWord.TheVariants.{Managed}
+use Rattle.line_parts.specs.Types.{TypeWord}
+use Rattle.line_parts.specs.Types.{Managed}
 use Rattle.line_tokens.specs.declared.literals.Literal.{Literal}
 use Rattle.line_tokens.specs.declared.words.Binary.{Binary}
 use Rattle.line_tokens.specs.declared.words.Binary.TheVariants.{Add, Sub, Mul, Udiv, Sdiv, Urem, Srem, And, Or, Xor, Shl, Lshr, Ashr}
@@ -137,7 +137,7 @@ good_statepoint form lines func law result called live facts =
     let scope = scope_of lines func in
     let agreed = call_agrees form scope called.signature.answer called.callee called.passed in
     let more = takes_types called.signature.parameters (head_named scope called.callee)
-    && literal_fits (Rattle.line_parts.specs.declared.readings.TypeWord.TheVariants.Int 32) called.count in
+    && literal_fits (Rattle.line_parts.specs.Types.Int 32) called.count in
     let g = good_call form lines func law called.callee called.signature.answer called.passed facts.functions
     (and-left agreed more (not-false (agreed && more) facts.spelled)) facts.read.passed in
     subst (λ (c : Callee). GoodInst form lines func (statepoint_made lines func result called live c)) (sym g.is)

@@ -55,7 +55,7 @@ heads-have (l ∷ ls) = one_head l.number l.says ls (heads-have ls)
 -- a defined head is that of a definition, and a declared one that of a line
 pub data HeadFrom (lines : List Line) (head : Head) : Type 0 where
   from_definition : (func : Definition) → Contains (definitions_of lines) func → head_of func ≡ head → HeadFrom lines head
-  from_declaration : (l : Line) → Contains lines l → (answer : Rattle.line_parts.specs.declared.readings.TypeWord.TypeWord) (name : List ℕ)
+  from_declaration : (l : Line) → Contains lines l → (answer : Rattle.line_parts.specs.Types.TypeWord) (name : List ℕ)
       (parameters : List (Rattle.line_parts.specs.Lists.Named)) → l.says ≡ declare answer name parameters
       → head ≡ record { line = l.number; defined = false; name = name; answer = answer; parameters = types_of parameters } → HeadFrom lines head
 
@@ -154,13 +154,13 @@ says-defined P (l ∷ ls) all =
     one_defined P l.number l.says ls here rest (says-defined P ls rest)
 
 -- a layout is that of a line
-one_layout : (P : LayoutLine → Type 0) (Q : Statement → Type 0) → ((n : ℕ) (name : List ℕ) (fields : List (Rattle.line_parts.specs.declared.readings.TypeWord.TypeWord)) → Q (layout name fields)
+one_layout : (P : LayoutLine → Type 0) (Q : Statement → Type 0) → ((n : ℕ) (name : List ℕ) (fields : List (Rattle.line_parts.specs.Types.TypeWord)) → Q (layout name fields)
     → P (record { line = n; name = name; fields = fields })) → (n : ℕ) (s : Statement) → Q s → All P (layout_said n s)
 one_layout P Q f n (layout name fields) q = All-cons P (record { line = n; name = name; fields = fields }) [] (f n name fields q) (All-nil P)
 one_layout P Q f n _ q = All-nil P
 
 pub says-layouts : (P : LayoutLine → Type 0) (Q : Statement → Type 0)
-    → ((n : ℕ) (name : List ℕ) (fields : List (Rattle.line_parts.specs.declared.readings.TypeWord.TypeWord)) → Q (layout name fields)
+    → ((n : ℕ) (name : List ℕ) (fields : List (Rattle.line_parts.specs.Types.TypeWord)) → Q (layout name fields)
     → P (record { line = n; name = name; fields = fields })) → (lines : List Line) → All (λ l. Q l.says) lines → All P (layouts_of lines)
 says-layouts P Q f [] all = All-nil P
 says-layouts P Q f (l ∷ ls) all =

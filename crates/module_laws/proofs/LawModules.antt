@@ -18,7 +18,7 @@ use Rattle.ir_ast.specs.Faults.BadLayout.{LayoutsHaveFields}
 use Rattle.ir_ast.specs.Faults.Reserved.{IsExternalName, FunctionNamesAreFree}
 use Rattle.ir_ast.specs.declared.modules.Form.{Form}
 use Rattle.ir_cfg.specs.Limits.{IsName, IsWithinLimits}
-use Rattle.line_parts.specs.declared.readings.TypeWord.{TypeWord}
+use Rattle.line_parts.specs.Types.{TypeWord}
 use Rattle.ir_lines.specs.Statements.{Line}
 use Rattle.ir_lines.specs.Sections.{Definition, LayoutLine, BlockLines, layouts_of, definitions_of, blocks_of, arguments_named}
 use Rattle.ir_lines.specs.Modules.{known_of, cell_of, layout_of, argument_of, block_of, function_of}

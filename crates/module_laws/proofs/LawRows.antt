@@ -21,7 +21,7 @@ use Rattle.ir_ast.specs.Faults.GroupShape.{Group as ModuleGroup, is_statepoint, 
 use Rattle.ir_cfg.specs.Statepoints.{is_relocate as is_relocate_op, relocates_of, StatepointsAreSmall, IdIsWord}
 use Rattle.line_tokens.specs.declared.literals.Literal.{Literal}
 use Rattle.ir_lines.specs.Statements.{Guarded, Line, Statement, statepoint, gc_result, gc_relocate}
-use Rattle.line_parts.specs.declared.readings.TypeWord.{TypeWord}
+use Rattle.line_parts.specs.Types.{TypeWord}
 use Rattle.line_parts.specs.Parts.{Val}
 use Rattle.ir_lines.specs.Parts.{gives, token_type, live_use}
 use Rattle.ir_lines.specs.Sections.{Definition, Naming, definitions_of, arguments_named, result_named, values_before, values_of}

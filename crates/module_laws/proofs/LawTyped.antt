@@ -22,8 +22,8 @@ use Rattle.ir_ast.specs.Scope.{Scope, scope_of as module_scope}
 use Rattle.ir_ast.specs.Faults.TypeClash.{Fits, IsTyped, IsCallOf, RuleOf}
 use Rattle.ir_ast.specs.declared.modules.Form.{Form}
 use Rattle.ir_ast.specs.declared.modules.Form.TheVariants.{Source}
-use Rattle.line_parts.specs.declared.readings.TypeWord.{TypeWord}
-use Rattle.line_parts.specs.declared.readings.TypeWord.TheVariants.{Void, Int, Managed, Plain}
+use Rattle.line_parts.specs.Types.{TypeWord}
+use Rattle.line_parts.specs.Types.{Void, Int, Managed, Plain}
 use Rattle.line_tokens.specs.declared.words.Binary.{Binary}
 use Rattle.line_tokens.specs.declared.words.Binary.TheVariants.{Add, Sub, Mul, Udiv, Sdiv, Urem, Srem, And, Or, Xor, Shl, Lshr, Ashr}
 use Rattle.line_tokens.specs.declared.words.Conversion.{Conversion}

@@ -408,7 +408,7 @@ abbrev OpensEntry : Place → Option Place → Type 0
 OpensEntry place None = Unit {0}
 OpensEntry place (Some next) = (place ≡ places.Top) × (next ≡ places.Entry)
 
-opens_entry : (place : Place) (answer : Rattle.line_parts.specs.declared.readings.TypeWord.TypeWord) (name : List ℕ) (arguments : List (Rattle.line_parts.specs.Lists.Named)) (strategy : Option (List ℕ))
+opens_entry : (place : Place) (answer : Rattle.line_parts.specs.Types.TypeWord) (name : List ℕ) (arguments : List (Rattle.line_parts.specs.Lists.Named)) (strategy : Option (List ℕ))
     → OpensEntry place (place_behind place (define answer name arguments strategy))
 opens_entry places.Top answer name arguments strategy = (refl, refl)
 opens_entry place answer name arguments strategy = tt

@@ -10,8 +10,8 @@ use Rattle.sp_text.specs.Tokens.{tokens, is_name, says_nothing}
 use Rattle.ir_cfg.specs.Limits.{IsName}
 use Rattle.ir_ast.specs.Widths.{IsWidth}
 use Rattle.line_tokens.specs.Numbers.{is_width}
-use Rattle.line_parts.specs.declared.readings.TypeWord.{TypeWord}
-use Rattle.line_parts.specs.declared.readings.TypeWord.TheVariants.{Void, Int, Managed, Plain}
+use Rattle.line_parts.specs.Types.{TypeWord}
+use Rattle.line_parts.specs.Types.{Void, Int, Managed, Plain}
 use Rattle.line_parts.specs.Parts.{is_value_type, is_answer_type}
 use Rattle.line_parts.specs.Lists.{Named, Given, given, function, is_argument_type}
 use Rattle.line_forms.specs.declared.forms.Form.{Form}

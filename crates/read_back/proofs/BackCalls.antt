@@ -40,8 +40,8 @@ use Rattle.ir_ast.specs.Faults.Reserved.{IsExternalName}
 use Rattle.ir_printer.specs.Names.{Names, layout_name, function_name}
 use Rattle.ir_printer.specs.Calls.{callee_name}
 use Rattle.ir_printer.specs.Declarations.{is_callee, is_statepoints, is_call_of}
-use Rattle.line_parts.specs.declared.readings.TypeWord.{TypeWord}
-use Rattle.line_parts.specs.declared.readings.TypeWord.TheVariants as types
+use Rattle.line_parts.specs.Types.{TypeWord}
+use Rattle.line_parts.specs.Types as types
 use Rattle.line_parts.specs.Lists.{Named, Given}
 use Rattle.ir_lines.specs.Statements.{Line, Statement, switch_end}
 use Rattle.ir_lines.specs.Sections.{Head, Definition, types_of, heads_of}

@@ -15,9 +15,9 @@ use Rattle.ir_ast.specs.Modules.{ModuleContent}
 use Rattle.ir_printer.specs.Names.{Names}
 use Rattle.ir_printer.specs.Declarations.{calls, externals, fixed_externals, integer_widths}
 use Rattle.print_tables.specs.declared.externals.External.TheVariants as externs
-use Rattle.line_parts.specs.declared.readings.TypeWord.TheVariants as types
+use Rattle.line_parts.specs.Types as types
 use Rattle.print_tables.specs.declared.externals.External.{External}
-use Rattle.line_parts.specs.declared.readings.TypeWord.{TypeWord}
+use Rattle.line_parts.specs.Types.{TypeWord}
 use Rattle.ir_lines.specs.Statements.{Line, Statement, layout, declare, define, close, label, cast}
 use Rattle.ir_lines.specs.Sections.{Definition, definitions_of, types_of}
 use Rattle.ir_lines.specs.Externals.{external, gc_new, makers_of, externals_of, own_externals, helpers}

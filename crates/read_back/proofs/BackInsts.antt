@@ -24,8 +24,8 @@ use Rattle.ir_ast.specs.Lines.{Has, LineOf, Arguments, is_argument, is_element, 
 use Rattle.ir_ast.specs.Widths.{IsWidth, type_widths, operator_widths}
 use Rattle.ir_ast.specs.Faults.TypeClash.{Fits, asked}
 use Rattle.ir_printer.specs.Names.{Names}
-use Rattle.line_parts.specs.declared.readings.TypeWord.{TypeWord}
-use Rattle.line_parts.specs.declared.readings.TypeWord.TheVariants as types
+use Rattle.line_parts.specs.Types.{TypeWord}
+use Rattle.line_parts.specs.Types as types
 use Rattle.line_tokens.specs.declared.words.Binary.{Binary}
 use Rattle.line_tokens.specs.declared.words.Binary.TheVariants as binaries
 use Rattle.line_tokens.specs.declared.words.Conversion.{Conversion}

@@ -18,8 +18,8 @@ use Rattle.ir_ast.specs.Types.{is_void, is_integer, is_condition, is_pointer, is
 use Rattle.ir_ast.specs.Lines.{Has, is_element}
 use Rattle.ir_printer.specs.Names.{Names}
 use Rattle.ir_printer.specs.Operands.{operand_at, label_at}
-use Rattle.line_parts.specs.declared.readings.TypeWord.{TypeWord}
-use Rattle.line_parts.specs.declared.readings.TypeWord.TheVariants as types
+use Rattle.line_parts.specs.Types.{TypeWord}
+use Rattle.line_parts.specs.Types as types
 use Rattle.line_tokens.specs.declared.words.Binary.{Binary}
 use Rattle.line_tokens.specs.declared.words.Conversion.{Conversion}
 use Rattle.ir_lines.specs.Statements.{Line, Statement}

@@ -21,7 +21,7 @@ use Rattle.ir_ast.specs.Faults.TypeClash.{Fits}
 use Rattle.ir_ast.specs.Faults.Reserved.{IsExternalName}
 use Rattle.ir_printer.specs.Names.{Names, function_name, layout_name}
 use Rattle.ir_printer.specs.Calls.{callee_name}
-use Rattle.line_parts.specs.declared.readings.TypeWord.{TypeWord}
+use Rattle.line_parts.specs.Types.{TypeWord}
 use Rattle.ir_lines.specs.Statements.{Line, Statement, switch_end}
 use Rattle.ir_lines.specs.Sections.{cases_of}
 use Rattle.ir_lines.specs.Places.{place_in, number_of}

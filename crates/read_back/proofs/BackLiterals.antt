@@ -6,7 +6,7 @@ use Rattle.std.proofs.lemmas.Bool.Decides.{Decides-eqb}
 use Rattle.sp_ids.specs.Numbers.{signed}
 use Rattle.sp_ids.specs.Numbers as numbers
 use Rattle.ir_ast.specs.declared.ops.Operand.TheVariants as operands
-use Rattle.line_parts.specs.declared.readings.TypeWord.TheVariants as types
+use Rattle.line_parts.specs.Types as types
 use Rattle.ir_lines.specs.Modules.{wrapped, operand_in}
 use Rattle.read_back.specs.Said.{literal_of, integer_value}
 use Rattle.std.specs.Prelude.{List}

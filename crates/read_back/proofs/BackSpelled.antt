@@ -14,8 +14,8 @@ use Rattle.ir_ast.specs.declared.ops.Operand.TheVariants as operands
 use Rattle.ir_ast.specs.Modules.{ModuleContent}
 use Rattle.ir_ast.specs.Widths.{IsWidth}
 use Rattle.ir_printer.specs.Names.{Names}
-use Rattle.line_parts.specs.declared.readings.TypeWord.{TypeWord}
-use Rattle.line_parts.specs.declared.readings.TypeWord.TheVariants as types
+use Rattle.line_parts.specs.Types.{TypeWord}
+use Rattle.line_parts.specs.Types as types
 use Rattle.line_parts.specs.Parts.{Val}
 use Rattle.line_parts.specs.Parts as values
 use Rattle.ir_lines.specs.Statements.{Line, Statement}

@@ -36,7 +36,7 @@ use Rattle.print_tables.specs.declared.externals.External.TheVariants as externs
 use Rattle.line_parts.specs.Parts as values
 use Rattle.print_tables.specs.declared.externals.External.{External}
 use Rattle.line_parts.specs.Parts.{Val}
-use Rattle.line_parts.specs.declared.readings.TypeWord.{TypeWord}
+use Rattle.line_parts.specs.Types.{TypeWord}
 use Rattle.line_parts.specs.Lists.{Given}
 use Rattle.ir_lines.specs.Statements.{Line, Statement, switch_end}
 use Rattle.ir_lines.specs.Parts.{uses, targets, entry_labels, functions_named, layouts_named, local_name, passed_function}

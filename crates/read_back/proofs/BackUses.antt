@@ -23,8 +23,8 @@ use Rattle.ir_ast.specs.Values.{value_types}
 use Rattle.ir_ast.specs.Faults.TypeClash.{Fits}
 use Rattle.ir_printer.specs.Names.{Names}
 use Rattle.ir_printer.specs.Operands.{operand_at}
-use Rattle.line_parts.specs.declared.readings.TypeWord.{TypeWord}
-use Rattle.line_parts.specs.declared.readings.TypeWord.TheVariants as types
+use Rattle.line_parts.specs.Types.{TypeWord}
+use Rattle.line_parts.specs.Types as types
 use Rattle.line_tokens.specs.declared.words.Binary.TheVariants as binaries
 use Rattle.line_parts.specs.Lists.{Given}
 use Rattle.line_parts.specs.Parts.{Val}

@@ -7,7 +7,7 @@ use Rattle.ir_ast.specs.declared.cells.Cell.TheVariants as cells
 use Rattle.ir_ast.specs.declared.types.Ty.TheVariants as tys
 use Rattle.ir_ast.specs.declared.ops.Operand.TheVariants as operands
 use Rattle.ir_ast.specs.Cells.{kind_of, word_of}
-use Rattle.line_parts.specs.declared.readings.TypeWord.TheVariants as types
+use Rattle.line_parts.specs.Types as types
 use Rattle.line_parts.specs.Parts.{is_value_type}
 use Rattle.ir_lines.specs.Types.{is_cell}
 use Rattle.ir_lines.specs.Modules.{cell_of}

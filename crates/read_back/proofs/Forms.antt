@@ -6,7 +6,7 @@ use Rattle.sp_text.proofs.TokenLemmas.{tokens-nil}
 use Rattle.sp_text.proofs.Spelled.{tokens-spelled, tokens-blank}
 use Rattle.ir_ast.specs.declared.ops.Pred.{Pred}
 use Rattle.ir_ast.specs.declared.ops.Pred.TheVariants as preds
-use Rattle.line_parts.specs.declared.readings.TypeWord.{TypeWord}
+use Rattle.line_parts.specs.Types.{TypeWord}
 use Rattle.line_forms.specs.declared.forms.Form.{Form}
 use Rattle.line_forms.specs.declared.forms.Form.TheVariants as forms
 use Rattle.line_tokens.specs.declared.words.Binary.{Binary}

@@ -12,7 +12,7 @@ use Rattle.ir_ast.specs.declared.modules.Form.{Form as TextForm}
 use Rattle.ir_ast.specs.declared.modules.Form.TheVariants as text_forms
 use Rattle.ir_ast.specs.Lists.{HasFront}
 use Rattle.ir_ast.specs.Faults.Reserved.{IsExternalName}
-use Rattle.line_parts.specs.declared.readings.TypeWord.{TypeWord}
+use Rattle.line_parts.specs.Types.{TypeWord}
 use Rattle.line_forms.specs.declared.forms.Form.{Form}
 use Rattle.line_forms.specs.declared.forms.Form.TheVariants as forms
 use Rattle.line_tokens.specs.declared.words.Dropped.TheVariants as drops

@@ -8,8 +8,8 @@ use Rattle.ir_ast.specs.declared.modules.Form.TheVariants as text_forms
 use Rattle.line_forms.specs.declared.forms.Form.TheVariants as forms
 use Rattle.line_forms.specs.declared.forms.DroppedLine.TheVariants as drop_lines
 use Rattle.line_tokens.specs.declared.words.Dropped.TheVariants as drops
-use Rattle.line_parts.specs.declared.readings.TypeWord.{TypeWord}
-use Rattle.line_parts.specs.declared.readings.TypeWord.TheVariants as types
+use Rattle.line_parts.specs.Types.{TypeWord}
+use Rattle.line_parts.specs.Types as types
 use Rattle.line_forms.specs.Slots.{family_answer}
 use Rattle.line_tokens.specs.Families.{statepoint_name, relocate_name, result_suffix, result_front, is_family_name}
 use Rattle.line_forms.proofs.FamilyLines.{fit_is}

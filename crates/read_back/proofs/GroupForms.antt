@@ -6,7 +6,7 @@ use Rattle.std.proofs.lemmas.Slice.Eq.{bytes_eq-Decides}
 use Rattle.sp_text.specs.Tokens.{Tok, tok, tokens, is_name}
 use Rattle.sp_text.specs.declared.tokens.Kind.TheVariants as kinds
 use Rattle.ir_ast.specs.declared.modules.Form.TheVariants as text_forms
-use Rattle.line_parts.specs.declared.readings.TypeWord.{TypeWord}
+use Rattle.line_parts.specs.Types.{TypeWord}
 use Rattle.line_tokens.specs.declared.literals.Literal.{Literal}
 use Rattle.line_forms.specs.declared.forms.Form.TheVariants as forms
 use Rattle.line_forms.specs.declared.forms.DroppedLine.TheVariants as drop_lines

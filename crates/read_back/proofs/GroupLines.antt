@@ -31,7 +31,7 @@ use Rattle.ir_printer.specs.Words.{type_text, integer_text}
 use Rattle.ir_printer.specs.Operands.{parameter_text, value_text}
 use Rattle.ir_printer.specs.Calls.{callee_name, statepoint_words, elementtype_words, end_words, result_words, relocate_words, bundles_text, result_suffix}
 use Rattle.ir_printer.specs.Lines.{result_front, operator_text}
-use Rattle.line_parts.specs.declared.readings.TypeWord.TheVariants as types
+use Rattle.line_parts.specs.Types as types
 use Rattle.line_forms.specs.declared.forms.Form.TheVariants as forms
 use Rattle.line_tokens.specs.Families.{is_suffix}
 use Rattle.line_parts.specs.Gives.{after}

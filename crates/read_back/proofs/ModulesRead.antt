@@ -23,8 +23,8 @@ use Rattle.ir_printer.specs.Declarations.{calls, new_words, result_of_words, fix
 use Rattle.ir_printer.specs.Lists.{joined, led}
 use Rattle.ir_printer.specs.Names.{layout_name}
 use Rattle.ir_printer.specs.Texts.{layout_text, function_text, functions_text, text_of}
-use Rattle.line_parts.specs.declared.readings.TypeWord.{TypeWord}
-use Rattle.line_parts.specs.declared.readings.TypeWord.TheVariants as types
+use Rattle.line_parts.specs.Types.{TypeWord}
+use Rattle.line_parts.specs.Types as types
 use Rattle.line_forms.specs.declared.forms.Form.{Form}
 use Rattle.line_forms.specs.declared.forms.Form.TheVariants as forms
 use Rattle.line_forms.specs.declared.forms.DroppedLine.TheVariants as drop_lines

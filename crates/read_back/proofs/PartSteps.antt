@@ -5,8 +5,8 @@ use Rattle.sp_text.specs.declared.tokens.Kind.TheVariants as kinds
 use Rattle.sp_text.proofs.Spelled.{stops, continues, tokens-spelled, tokens-blank}
 use Rattle.ir_ast.specs.declared.ops.Pred.{Pred}
 use Rattle.ir_ast.specs.declared.ops.Pred.TheVariants as preds
-use Rattle.line_parts.specs.declared.readings.TypeWord.{TypeWord}
-use Rattle.line_parts.specs.declared.readings.TypeWord.TheVariants as types
+use Rattle.line_parts.specs.Types.{TypeWord}
+use Rattle.line_parts.specs.Types as types
 use Rattle.ir_ast.specs.Widths.{IsWidth}
 use Rattle.line_parts.specs.Gives.{after, one_at, one_noted_at}
 use Rattle.line_parts.specs.Parts.{Val, is_value_type, is_answer_type, is_managed, is_scalar_type, is_case_value, case_value_at, place_at, strategy_at}

@@ -35,7 +35,7 @@ use Rattle.ir_ast.specs.declared.modules.Form.{Form as TextForm}
 use Rattle.ir_ast.specs.declared.modules.Form.TheVariants as text_forms
 use Rattle.line_parts.specs.Groups.{is_value_given, takes_own}
 use Rattle.ir_reader.specs.declared.states.Counted.TheVariants as kinds
-use Rattle.line_parts.specs.declared.readings.TypeWord.TheVariants as types
+use Rattle.line_parts.specs.Types as types
 use Rattle.line_tokens.specs.declared.words.Binary.{Binary}
 use Rattle.line_tokens.specs.declared.words.Binary.TheVariants as binaries
 use Rattle.line_tokens.specs.declared.words.Conversion.{Conversion}

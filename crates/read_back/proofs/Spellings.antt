@@ -17,8 +17,8 @@ use Rattle.sp_text.specs.Tokens.{Tok, tok, tokens, is_token, is_name, are_digits
 use Rattle.sp_text.specs.declared.tokens.Kind.{Kind}
 use Rattle.sp_text.specs.declared.tokens.Kind.TheVariants as kinds
 use Rattle.sp_text.proofs.Spelled.{stops, continues, tokens-spelled, tokens-blank}
-use Rattle.line_parts.specs.declared.readings.TypeWord.{TypeWord}
-use Rattle.line_parts.specs.declared.readings.TypeWord.TheVariants as types
+use Rattle.line_parts.specs.Types.{TypeWord}
+use Rattle.line_parts.specs.Types as types
 use Rattle.line_tokens.specs.declared.words.Flags.{Flags}
 use Rattle.line_tokens.specs.declared.words.Flags.TheVariants as flags
 use Rattle.line_tokens.specs.Numbers.{decimal_from, is_width, width_of, width_passes, number_spelled, is_literal, literal_spelled, literal_passes}

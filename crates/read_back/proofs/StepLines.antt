@@ -13,7 +13,7 @@ use Rattle.ir_printer.specs.Names.{Names, layout_name}
 use Rattle.ir_printer.specs.Operands.{value_text}
 use Rattle.ir_printer.specs.Lines.{result_front, operator_text, element_text}
 use Rattle.line_forms.specs.declared.forms.Form.TheVariants as forms
-use Rattle.line_parts.specs.declared.readings.TypeWord.TheVariants as types
+use Rattle.line_parts.specs.Types as types
 use Rattle.line_parts.specs.Parts.{is_scalar_type}
 use Rattle.line_forms.specs.Slots as parts
 use Rattle.read_back.specs.Said.{value_says}

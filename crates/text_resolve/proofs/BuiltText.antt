@@ -7,7 +7,7 @@ use Rattle.ir_ast.specs.declared.funcs.Arg.{Arg}
 use Rattle.ir_ast.specs.Insts.{Instruction}
 use Rattle.ir_ast.specs.Blocks.{BasicBlock}
 use Rattle.ir_ast.specs.Funcs.{Function, LinedFunction, IsSmall}
-use Rattle.line_parts.specs.declared.readings.TypeWord.{TypeWord}
+use Rattle.line_parts.specs.Types.{TypeWord}
 use Rattle.ir_lines.specs.declared.scope.Top.{Top}
 use Rattle.ir_lines.specs.Statements.{Statement, Line, layout, declare, define, close, label, switch_case, switch_end}
 use Rattle.ir_lines.specs.Sections.{Definition, BlockLines, arguments_named, definitions_of, blocks_of}

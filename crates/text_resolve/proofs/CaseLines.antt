@@ -6,6 +6,7 @@ use Rattle.std.proofs.lemmas.List.{take_more, length-take-le}
 use Rattle.std.proofs.lemmas.Option.{slice_get_within, get_or_from_slice_get}
 use Rattle.ir_lines.specs.Statements.{Line}
 use Rattle.ir_lines.specs.Sections.{is_case, cases_of}
+use Rattle.line_tokens.specs.declared.widths.Width.{Width}
 use Rattle.line_forms.specs.declared.readings.Reading.{Reading}
 use Rattle.line_forms.specs.declared.readings.Reading.TheVariants.{Case}
 use Rattle.line_parts.specs.declared.readings.Value.{Value}
@@ -78,6 +79,6 @@ cases-end lines i n run =
 
 -- ---- one more case
 
-pub not-case : (r : Reading) → ((width : ℕ) (value : Value) (label : Name) → r ≡ Case width value label → ⊥) → is_case (said r) ≡ false
+pub not-case : (r : Reading) → ((width : Width) (value : Value) (label : Name) → r ≡ Case width value label → ⊥) → is_case (said r) ≡ false
 not-case (Case width value label) none = absurd (none width value label refl)
 not-case _ none = refl

@@ -5,8 +5,8 @@ use Rattle.std.specs.List.{Contains}
 use Rattle.std.proofs.lemmas.Bool.Decides.{Decides-eqb}
 use Rattle.std.proofs.lemmas.List.{append_cancel_left}
 use Rattle.std.proofs.lemmas.List.Elements.{Contains-append_right, Contains-append_cases}
-use Rattle.line_parts.specs.declared.readings.TypeWord.{TypeWord}
-use Rattle.line_parts.specs.declared.readings.TypeWord.TheVariants.{Void, Int, Managed, Plain}
+use Rattle.line_parts.specs.Types.{TypeWord}
+use Rattle.line_parts.specs.Types.{Void, Int, Managed, Plain}
 use Rattle.std.proofs.lemmas.Bool.{and_parts}
 use Rattle.ir_lines.specs.Types.{same_type, same_types}
 use Rattle.ir_lines.specs.Externals.{External, external, gc_new, makers_of}

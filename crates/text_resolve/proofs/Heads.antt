@@ -3,7 +3,7 @@ use Rattle.std.proofs.Common.{◌≡◌, ℕ, inl, inr, true, false, List, [], �
 use Rattle.std.specs.Prelude.{Option, take_while, not}
 use Rattle.std.specs.List.{Contains}
 use Rattle.std.proofs.lemmas.List.Elements.{Contains-append_left, Contains-append_right, Contains-append_cases}
-use Rattle.line_parts.specs.declared.readings.TypeWord.{TypeWord}
+use Rattle.line_parts.specs.Types.{TypeWord}
 use Rattle.line_parts.specs.Lists.{Named}
 use Rattle.ir_lines.specs.Statements.{Statement, Line, declare, define}
 use Rattle.ir_lines.specs.Sections.{Head, Definition, head_said, heads_of, definition_said, definitions_of, types_of, is_close}

@@ -3,6 +3,7 @@ use Rattle.std.proofs.Common.{◌≡◌, ◌≢◌, ◌∙◌, ℕ, ◌+◌, ◌
 use Rattle.std.specs.Prelude.{Option, map, IsTrue, OnOk, Result, Ok, Err, ◌↔◌, if◌then◌else◌}
 use Rattle.std.proofs.lemmas.List.{append-nil, drop_all}
 use Rattle.sp_text.specs.declared.names.Name.{Name}
+use Rattle.line_tokens.specs.declared.widths.Width.{Width}
 use Rattle.line_forms.specs.declared.readings.Reading.{Reading}
 use Rattle.line_forms.specs.declared.readings.Reading.TheVariants.{Case, Switch}
 use Rattle.line_parts.specs.declared.readings.Value.{Value}
@@ -23,7 +24,7 @@ use Rattle.text_resolve.specs.Rows.{row_said, rows_of}
 abbrev pub numbers_of : List Line → List ℕ
 numbers_of lines = map (λ (l : Line). l.number) lines
 
-pub case-more : (line : NumberedReading) (rest : List Line) (width : ℕ) (value : Value) (label : Name) → line.reading ≡ Case width value label
+pub case-more : (line : NumberedReading) (rest : List Line) (width : Width) (value : Value) (label : Name) → line.reading ≡ Case width value label
     → numbers_of (cases_of (seen_line line ∷ rest)) ≡ line.line ∷ numbers_of (cases_of rest)
 case-more line rest width value label e =
     ap (λ (r : Reading). numbers_of (cases_of (record { number = line.line; says = said r } ∷ rest))) e
@@ -44,12 +45,12 @@ case-end xs i items whole end e =
 
 -- ---- widths
 
-said-case : (width : ℕ) (r : Reading) (other : ℕ) (value : Value) (label : Name) → r ≡ Case other value label
-    → IsOtherWidth width (said r) ≡ (other ≢ width)
+said-case : (width : ℕ) (r : Reading) (other : Width) (value : Value) (label : Name) → r ≡ Case other value label
+    → IsOtherWidth width (said r) ≡ (other.bits ≢ width)
 said-case width r other value label e = ap (λ (s : Reading). IsOtherWidth width (said s)) e
 
-pub notes-width : (width other : ℕ) (value : Value) (label : Name) (test : Bool) (earlier : List Line) (here : NumberedReading) (later : List Line)
-    (old new : Option Fault) → here.reading ≡ Case other value label → (IsTrue test ↔ (other ≢ width))
+pub notes-width : (width : ℕ) (other : Width) (value : Value) (label : Name) (test : Bool) (earlier : List Line) (here : NumberedReading) (later : List Line)
+    (old new : Option Fault) → here.reading ≡ Case other value label → (IsTrue test ↔ (other.bits ≢ width))
     → Notes old new (λ l code. IsTrue test × Is here.line 5 l code) → Notes old new (OtherWidthAt width earlier (seen_line here) later)
 notes-width width other value label test earlier here later old new e is n =
     let same = said-case width here.reading other value label e in
@@ -76,12 +77,12 @@ rows-end xs i items whole end e =
 
 -- ---- a line that is no `switch`
 
-pub other-row : (behind : List Line) (r : Reading) → ((width : ℕ) (value : Value) (default : Name) → r ≡ Switch width value default → ⊥)
+pub other-row : (behind : List Line) (r : Reading) → ((width : Width) (value : Value) (default : Name) → r ≡ Switch width value default → ⊥)
     → (if is_instruction (said r) then [] ∷ [] else []) ≡ row_said behind (said r)
 other-row behind (Switch width value default) none = absurd (none width value default refl)
 other-row behind _ none = refl
 
-pub other-widths : (behind : List Line) (r : Reading) → ((width : ℕ) (value : Value) (default : Name) → r ≡ Switch width value default → ⊥)
+pub other-widths : (behind : List Line) (r : Reading) → ((width : Width) (value : Value) (default : Name) → r ≡ Switch width value default → ⊥)
     → (line code : ℕ) → WidthsBehind (said r) behind line code → ⊥
 other-widths behind (Switch width value default) none line code f = none width value default refl
 other-widths behind _ none line code f = f

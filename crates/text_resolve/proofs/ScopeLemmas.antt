@@ -2,6 +2,7 @@
 use Rattle.std.proofs.Common.{◌≡◌, ◌∙◌, ℕ, inl, inr, List, ap, sym, subst}
 use Rattle.std.specs.Prelude.{Option, Result, Ok, Err, OnOk, map}
 use Rattle.ir_ast.specs.declared.modules.Form.{Form}
+use Rattle.line_parts.specs.Seen.{seen_type}
 use Rattle.ir_lines.specs.declared.faults.Fault.{Fault}
 use Rattle.ir_lines.specs.declared.scope.Top.{Top}
 use Rattle.ir_lines.specs.declared.scope.Local.{Local}
@@ -43,7 +44,7 @@ tables_with top local = record {
   heads = top.heads;
   head_list = map seen_head top.head_list.items;
   values = local.values;
-  types = local.types.items;
+  types = map seen_type local.types.items;
   blocks = local.blocks;
 }
 

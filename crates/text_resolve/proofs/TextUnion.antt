@@ -3,7 +3,7 @@ use Rattle.std.proofs.Common.{◌≡◌, ◌∙◌, ℕ, ◌⊎◌, inl, inr, Bo
 use Rattle.std.specs.Prelude.{Option, map, not}
 use Rattle.std.specs.List.{Contains}
 use Rattle.std.proofs.lemmas.Bool.{not-true}
-use Rattle.line_parts.specs.declared.readings.TypeWord.{TypeWord}
+use Rattle.line_parts.specs.Types.{TypeWord}
 use Rattle.line_parts.specs.Lists.{Named}
 use Rattle.line_parts.specs.Parts.{Val}
 use Rattle.ir_ast.specs.declared.modules.Form.{Form}

@@ -1,7 +1,7 @@
 -- The faults that are seen without the lines of functions: those of layouts, declarations and heads, and of no main function.
 use Rattle.std.specs.Prelude.{◌≡◌, ℕ, false, ◌⊎◌, List, codes, Option}
 use Rattle.std.specs.List.{Contains}
-use Rattle.line_parts.specs.declared.readings.TypeWord.{TypeWord}
+use Rattle.line_parts.specs.Types.{TypeWord}
 use Rattle.line_parts.specs.Lists.{Named}
 use Rattle.ir_ast.specs.declared.modules.Form.{Form}
 use Rattle.ir_ast.specs.declared.modules.Form.TheVariants.{Source}

@@ -11,7 +11,7 @@ ghost use Rattle.text_resolve.specs.Rows.{row_said, rows_of};
 
 use case_lines::CaseLines;
 use ir_lines::best::First;
-use ir_reader::{NumberedReading, Reading};
+use ir_reader::{NumberedReading, Reading, Width};
 use module_build::lines::{behind, is_instruction};
 use std::alloc::{AllocError, Global};
 
@@ -23,13 +23,13 @@ fn is_other(width: u32, other: u32) -> bool
 
 // Adds the lines of the cases that stand first behind a `switch` of this width, and notes those of another width.
 fn note_cases(
-    width: u32,
+    width: Width,
     behind: &[NumberedReading],
     row: &mut Vec<u32>,
     first: &mut First,
 ) -> Result<(), AllocError>
     ensures row { OnOk result (row.new.items ≡ row.old.items ++ map (λ l. l.number) (cases_of (seen_lines behind.now))) }
-    ensures noted { OnOk result (Notes first.old.found first.new.found (OtherWidths width (cases_of (seen_lines behind.now)))) }
+    ensures noted { OnOk result (Notes first.old.found first.new.found (OtherWidths width.bits (cases_of (seen_lines behind.now)))) }
 {
     for line in behind {
         let Reading::Case {
@@ -40,7 +40,7 @@ fn note_cases(
             return Ok(());
         };
         row.push(line.line)?;
-        first.note_if(is_other(width, *case_width), line.line, 5);
+        first.note_if(is_other(width.bits, case_width.bits), line.line, 5);
     }
     Ok(())
 }
@@ -48,13 +48,13 @@ fn note_cases(
 // Adds the lines of the cases of a `switch` of this width, and notes those of another width.
 fn note_switch(
     alloc: Global,
-    width: u32,
+    width: Width,
     behind: &[NumberedReading],
     cases: &mut CaseLines,
     first: &mut First,
 ) -> Result<(), AllocError>
     ensures cases { OnOk result (cases.new ≡ cases.old ++ map (λ l. l.number) (cases_of (seen_lines behind.now)) ∷ []) }
-    ensures noted { OnOk result (Notes first.old.found first.new.found (OtherWidths width (cases_of (seen_lines behind.now)))) }
+    ensures noted { OnOk result (Notes first.old.found first.new.found (OtherWidths width.bits (cases_of (seen_lines behind.now)))) }
 {
     let mut row = Vec::new(alloc);
     note_cases(width, behind, &mut row, first)?;

@@ -5,7 +5,8 @@ ghost use Rattle.std.specs.Option.{option_copied};
 ghost use Rattle.std.specs.List.{Contains, list_all};
 ghost use Rattle.ir_ast.specs.Lists.{HasFront};
 ghost use Rattle.ir_ast.specs.Faults.Reserved.{externals, IsExternalName};
-ghost use Rattle.line_parts.specs.Seen.{seen_argument};
+ghost use Rattle.line_parts.specs.Types.{Int, Managed};
+ghost use Rattle.line_parts.specs.Seen.{seen_type, seen_argument};
 ghost use Rattle.ir_lines.specs.Sections.{types_of};
 ghost use Rattle.ir_lines.specs.Types.{same_type, same_types, is_cell};
 ghost use Rattle.ir_lines.specs.Externals.{external, externals_of, makers_of, own_externals, own_basics, own_helpers, basics, helpers, gc_new};
@@ -17,24 +18,33 @@ ghost use Rattle.ir_lines.specs.Faults.BadLayout.{are_cells};
 
 use ir_ast::Form;
 use ir_lines::best::First;
-use ir_lines::literals::is_cell;
+use ir_lines::literals::{is_cell, same_type};
 use ir_lines::names::is_text;
 use ir_lines::scope::Top;
-use ir_reader::{Argument, NumberedReading, Reading, TypeWord};
+use ir_reader::{Argument, NumberedReading, Reading, TypeWord, Width};
 use module_build::calls::has_types;
 
 const STRATEGY: &[u8] = b"statepoint-example";
 
 const GC_NEW: &[u8] = b"gc_new.";
 
+const I1: TypeWord = TypeWord::Int(Width { bits: 1 });
+
+const I64: TypeWord = TypeWord::Int(Width { bits: 64 });
+
 fn all_cells(fields: &[TypeWord]) -> bool
-    ensures { result ≡ list_all is_cell fields.now }
+    ensures { result ≡ list_all is_cell (map seen_type fields.now) }
 {
-    fields.iter().all(|field| is_cell(*field))
+    for field in fields {
+        if !is_cell(*field) {
+            return false;
+        }
+    }
+    true
 }
 
 fn is_good_layout(fields: &[TypeWord]) -> bool
-    ensures { result ≡ are_cells fields.now }
+    ensures { result ≡ are_cells (map seen_type fields.now) }
 {
     fields.len() != 0 && all_cells(fields)
 }
@@ -91,9 +101,9 @@ fn is_external_name(name: &[u8]) -> bool
 }
 
 fn is_type(ty: TypeWord, other: TypeWord) -> bool
-    ensures { result ≡ same_type ty other }
+    ensures { result ≡ same_type (seen_type ty) (seen_type other) }
 {
-    ty == other
+    same_type(ty, other)
 }
 
 // Whether the declaration is the external of this name, with its answer and its parameters.
@@ -105,7 +115,7 @@ fn is_same(
     gives: TypeWord,
     takes: &[TypeWord],
 ) -> bool
-    ensures { IsTrue result ↔ (external name.now answer (types_of (map seen_argument parameters.now)) ≡ external due.now gives takes.now) }
+    ensures { IsTrue result ↔ (external name.now (seen_type answer) (types_of (map seen_argument parameters.now)) ≡ external due.now (seen_type gives) (map seen_type takes.now)) }
 {
     if !is_text(name, due) {
         return false;
@@ -124,14 +134,14 @@ fn has_gc_new(name: &[u8]) -> bool
 
 // Whether the declaration answers and takes what `gc_new` of a layout does.
 fn is_gc_new(answer: TypeWord, parameters: &[Argument]) -> bool
-    ensures { result ≡ (same_type answer TypeWord.Managed && same_types (types_of (map seen_argument parameters.now)) (TypeWord.Int 64 ∷ [])) }
+    ensures { result ≡ (same_type (seen_type answer) Managed && same_types (types_of (map seen_argument parameters.now)) (Int 64 ∷ [])) }
 {
-    answer == TypeWord::Managed && has_types(parameters, &[TypeWord::Int(64)])
+    same_type(answer, TypeWord::Managed) && has_types(parameters, &[I64])
 }
 
 // Whether it is one of the externals whose names are whole, with its answer and its parameters.
 fn is_own(name: &[u8], answer: TypeWord, parameters: &[Argument]) -> bool
-    ensures { IsTrue result ↔ Contains own_externals (external name.now answer (types_of (map seen_argument parameters.now))) }
+    ensures { IsTrue result ↔ Contains own_externals (external name.now (seen_type answer) (types_of (map seen_argument parameters.now))) }
 {
     if is_own_basic(name, answer, parameters) {
         return true;
@@ -140,7 +150,7 @@ fn is_own(name: &[u8], answer: TypeWord, parameters: &[Argument]) -> bool
 }
 
 fn is_own_basic(name: &[u8], answer: TypeWord, parameters: &[Argument]) -> bool
-    ensures { IsTrue result ↔ Contains own_basics (external name.now answer (types_of (map seen_argument parameters.now))) }
+    ensures { IsTrue result ↔ Contains own_basics (external name.now (seen_type answer) (types_of (map seen_argument parameters.now))) }
 {
     is_same(
         name,
@@ -148,13 +158,13 @@ fn is_own_basic(name: &[u8], answer: TypeWord, parameters: &[Argument]) -> bool
         parameters,
         b"print_i64",
         TypeWord::Void,
-        &[TypeWord::Int(64)],
+        &[I64],
     ) || is_same(
         name,
         answer,
         parameters,
         b"read_i64",
-        TypeWord::Int(64),
+        I64,
         &[],
     ) || is_same(
         name,
@@ -167,7 +177,7 @@ fn is_own_basic(name: &[u8], answer: TypeWord, parameters: &[Argument]) -> bool
 }
 
 fn is_own_helper(name: &[u8], answer: TypeWord, parameters: &[Argument]) -> bool
-    ensures { IsTrue result ↔ Contains own_helpers (external name.now answer (types_of (map seen_argument parameters.now))) }
+    ensures { IsTrue result ↔ Contains own_helpers (external name.now (seen_type answer) (types_of (map seen_argument parameters.now))) }
 {
     is_same(
         name,
@@ -182,13 +192,13 @@ fn is_own_helper(name: &[u8], answer: TypeWord, parameters: &[Argument]) -> bool
         parameters,
         b"gc_check",
         TypeWord::Void,
-        &[TypeWord::Managed, TypeWord::Managed, TypeWord::Int(64)],
+        &[TypeWord::Managed, TypeWord::Managed, I64],
     ) || is_same(
         name,
         answer,
         parameters,
         b"gc_same",
-        TypeWord::Int(1),
+        I1,
         &[
             TypeWord::Managed,
             TypeWord::Managed,
@@ -210,7 +220,7 @@ fn makes_layout(top: &Top, name: &[u8]) -> bool
 
 // Whether it is `gc_new` of a layout, with its answer and its parameters.
 fn is_made(top: &Top, answer: TypeWord, name: &[u8], parameters: &[Argument]) -> bool
-    ensures { IsTrue result ↔ Contains (makers_of top.now.layouts) (external name.now answer (types_of (map seen_argument parameters.now))) }
+    ensures { IsTrue result ↔ Contains (makers_of top.now.layouts) (external name.now (seen_type answer) (types_of (map seen_argument parameters.now))) }
 {
     if !is_gc_new(answer, parameters) {
         return false;
@@ -220,7 +230,7 @@ fn is_made(top: &Top, answer: TypeWord, name: &[u8], parameters: &[Argument]) ->
 
 // Whether it is one of the externals, with its answer and its parameters.
 fn is_external(top: &Top, answer: TypeWord, name: &[u8], parameters: &[Argument]) -> bool
-    ensures { IsTrue result ↔ Contains (externals_of top.now.layouts) (external name.now answer (types_of (map seen_argument parameters.now))) }
+    ensures { IsTrue result ↔ Contains (externals_of top.now.layouts) (external name.now (seen_type answer) (types_of (map seen_argument parameters.now))) }
 {
     if is_made(top, answer, name, parameters) {
         return true;
@@ -239,7 +249,7 @@ fn note_declaration(
     first: &mut First,
 )
     ensures { Notes first.old.found first.new.found (λ at code. (at ≡ line)
-        × DeclareFault form top.now.functions top.now.layouts answer name.now (map seen_argument parameters.now) code) }
+        × DeclareFault form top.now.functions top.now.layouts (seen_type answer) name.now (map seen_argument parameters.now) code) }
 {
     first.note_if(top.functions.has(name), line, 3);
     first.note_if(!is_external(top, answer, name, parameters), line, 12);

@@ -11,9 +11,9 @@ loop-line-preserved c =
     let rest = seen_lines (drop (c.loop-line.line-index + 1) c.args.behind.now) in
     record {
       made = moved _ _ _ _ _ _ c.in_ok-push-3.ensures.ok
-          (ap (λ ys. case_values c.args.local.now.values c.args.width (seen_lines ys)) here
-          ∙ case_values-more c.args.local.now.values c.args.width c.line-item.result rest c.in-Case.width c.in-Case.value c.in-Case.label c.in-Case.is
-          ∙ ap (λ one. one ∷ case_values c.args.local.now.values c.args.width rest) (sym c.operand-in-loop-line.ensures))
+          (ap (λ ys. case_values c.args.local.now.values c.args.width.bits (seen_lines ys)) here
+          ∙ case_values-more c.args.local.now.values c.args.width.bits c.line-item.result rest c.in-Case.width c.in-Case.value c.in-Case.label c.in-Case.is
+          ∙ ap (λ one. one ∷ case_values c.args.local.now.values c.args.width.bits rest) (sym c.operand-in-loop-line.ensures))
           c.loop-line.invariant.made;
       labelled = moved _ _ _ _ _ _ c.in_ok-push-4.ensures.ok
           (ap (λ ys. case_labels c.args.local.now.blocks (seen_lines ys)) here

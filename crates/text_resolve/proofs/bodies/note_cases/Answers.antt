@@ -19,7 +19,7 @@ returns-in_default c =
     record {
       row = case-stop c.args.behind.now i c.line-item.result c.loop-line.row.items (c.args.row.now.items ++ numbers_of (cases_of lines))
           c.loop-line-test.true c.line-item.is stop c.loop-line.invariant.row;
-      noted = notes-all (OtherWidthAt c.args.width) (cases_of lines) i c.args.first.now.found c.loop-line.first.found
+      noted = notes-all (OtherWidthAt c.args.width.bits) (cases_of lines) i c.args.first.now.found c.loop-line.first.found
           (cases-stop lines i (seen_line c.line-item.result) at stop c.loop-line.invariant.cases) c.loop-line.invariant.noted;
     }
 
@@ -31,7 +31,7 @@ returns c =
     let past : length c.args.behind.now ≤ i = omega (arith, end) in
     record {
       row = case-end c.args.behind.now i c.loop-line.row.items (c.args.row.now.items ++ numbers_of (cases_of lines)) past c.loop-line.invariant.row;
-      noted = notes-all (OtherWidthAt c.args.width) (cases_of lines) i c.args.first.now.found c.loop-line.first.found
+      noted = notes-all (OtherWidthAt c.args.width.bits) (cases_of lines) i c.args.first.now.found c.loop-line.first.found
           (cases-end lines i (end ∙ sym (length-map c.args.behind.now seen_line)) c.loop-line.invariant.cases) c.loop-line.invariant.noted;
     }
 
@@ -49,8 +49,8 @@ loop-line-preserved c =
           (ap (λ ys. numbers_of (cases_of (seen_lines ys))) (drop_item c.args.behind.now i c.line-item.result c.loop-line-test.true c.line-item.is)
           ∙ case-more c.line-item.result (seen_lines (drop (i + 1) c.args.behind.now)) c.in-Case.case_width c.in-Case.value c.in-Case.label c.in-Case.is)
           c.loop-line.invariant.row;
-      noted = notes-turn (OtherWidthAt c.args.width) (cases_of lines) i l c.args.first.now.found c.loop-line.first.found c.note_if.new.self.found
+      noted = notes-turn (OtherWidthAt c.args.width.bits) (cases_of lines) i l c.args.first.now.found c.loop-line.first.found c.note_if.new.self.found
           here.at c.loop-line.invariant.noted
-          (notes-width c.args.width c.in-Case.case_width c.in-Case.value c.in-Case.label c.is_other.result (take i (cases_of lines)) c.line-item.result
+          (notes-width c.args.width.bits c.in-Case.case_width c.in-Case.value c.in-Case.label c.is_other.result (take i (cases_of lines)) c.line-item.result
           (drop (i + 1) (cases_of lines)) c.loop-line.first.found c.note_if.new.self.found c.in-Case.is c.is_other.ensures c.note_if.ensures);
     }

@@ -12,5 +12,5 @@ abbrev pub invariant-loop-line : goal.invariant-loop-line
 invariant-loop-line l = record {
   cases : AreCases (seen_lines l.behind) l.line-index;
   row : l.row.items ++ numbers_of (cases_of (seen_lines (drop l.line-index l.behind))) ≡ l.initial.row.items ++ numbers_of (cases_of (seen_lines l.behind));
-  noted : Notes l.initial.first.found l.first.found (FoundUpTo (OtherWidthAt l.width) (cases_of (seen_lines l.behind)) l.line-index);
+  noted : Notes l.initial.first.found l.first.found (FoundUpTo (OtherWidthAt l.width.bits) (cases_of (seen_lines l.behind)) l.line-index);
 }

@@ -3,6 +3,7 @@ use Rattle.std.specs.Prelude.{map, flat_map}
 use Rattle.std.proofs.lemmas.List.Elements.{All-same}
 use Rattle.ir_ast.specs.Blocks.{EndsAtTerminator}
 use Rattle.ir_ast.specs.Funcs.{Function}
+use Rattle.line_parts.specs.Seen.{seen_type}
 use Rattle.ir_lines.specs.Sections.{BlockLines, arguments_named, blocks_of}
 use Rattle.ir_lines.specs.Tables.{seen_definition, seen_block}
 use Rattle.ir_lines.specs.Modules.{insts_of, numbers_of, block_of, argument_of}
@@ -42,6 +43,6 @@ returns-clause-made c =
     c.in_ok-args.ensures c.in_ok-built.ensures.blocks
     (c.in_ok-built.ensures.numbers
     ∙ ap (λ (ns : List ℕ). ns ++ flat_map (λ (one : BlockLines). numbers_of (known_in c.args.scope.now) one.lines) (map seen_block c.args.blocks.now)) c.in_ok-numbers.ensures.items)
-    (content-built c.with_lines.result.content c.in_ok-name.name c.args.func.now.name.now c.type_of.result c.args.func.now.answer c.in_ok-args.args.items
+    (content-built c.with_lines.result.content c.in_ok-name.name c.args.func.now.name.now c.type_of.result (seen_type c.args.func.now.answer) c.in_ok-args.args.items
     c.in_ok-built.built.items (c.with_lines.ensures.content ∙ c.of-whole.ensures.content) c.in_ok-name.ensures c.type_of.ensures)
     c.with_lines.ensures.lines
