@@ -53,18 +53,25 @@ fn insert_all(
     let mut after = Vec::with_capacity(alloc, blocks.len())?;
     let mut next = start;
     for block in blocks {
-        let (with_bases, behind) = insert_in(alloc, tables, next, block)?;
+        let spare = spare_for(after.is_empty(), start);
+        let (with_bases, behind) = insert_in(alloc, tables, next, spare, block)?;
         after.push(with_bases)?;
         next = behind;
     }
     Ok(after)
 }
 
-// The block, of which the first result is the value `next`, and the value after its results.
+// How many lines the group of the entry's poll can put in besides: a relocate of each argument.
+fn spare_for(is_entry: bool, args: usize) -> usize {
+    if is_entry { args } else { 0 }
+}
+
+// The block, of which the first result is the value `next`, and the value after its results. There is room for so many lines more.
 fn insert_in(
     alloc: Global,
     tables: &Tables,
     next: usize,
+    spare: usize,
     block: Block,
 ) -> Result<(Block, usize), Memory>
     requires { next + length block.insts < 2 ^ 64 }
@@ -72,7 +79,7 @@ fn insert_in(
     ensures behind { IfOk result (λ made. made.1 ≡ after_all next block.insts) }
 {
     let (name, insts) = block.into_parts();
-    let (lines, behind) = all_lines(alloc, tables, next, insts)?;
+    let (lines, behind) = all_lines(alloc, tables, next, spare, insts)?;
     Ok((Block::of(name, lines), behind))
 }
 
@@ -80,6 +87,7 @@ fn all_lines(
     alloc: Global,
     tables: &Tables,
     start: usize,
+    spare: usize,
     insts: Vec<Inst>,
 ) -> Result<(Vec<Inst>, usize), Memory>
     requires { start + length insts.items < 2 ^ 64 }
@@ -90,7 +98,7 @@ fn all_lines(
         let behind = value_after(start, insts.as_slice());
         return Ok((renumbered(alloc, tables, insts), behind));
     }
-    with_more_lines(alloc, tables, start, insts)
+    with_more_lines(alloc, tables, start, spare, insts)
 }
 
 // Whether each of these instructions is all that stands for it.
@@ -124,13 +132,15 @@ fn with_more_lines(
     alloc: Global,
     tables: &Tables,
     start: usize,
+    spare: usize,
     insts: Vec<Inst>,
 ) -> Result<(Vec<Inst>, usize), Memory>
     requires { start + length insts.items < 2 ^ 64 }
     ensures lines { IfOk result (λ made. made.0.items ≡ based_insts (tabled tables.now) start insts.items) }
     ensures behind { IfOk result (λ made. made.1 ≡ after_all start insts.items) }
 {
-    let mut lines = Vec::with_capacity(alloc, room_for(insts.as_slice()))?;
+    let room = room_for(insts.as_slice()).saturating_add(spare);
+    let mut lines = Vec::with_capacity(alloc, room)?;
     let mut next = start;
     for inst in insts {
         let behind = following(next, &inst);

@@ -1,6 +1,6 @@
 //! The lines of a block behind the group, and those of the entry.
 
-ghost use Rattle.std.specs.Prelude.{◌≡◌, ◌++◌, [], true, false, map, slice_index, IfOk};
+ghost use Rattle.std.specs.Prelude.{◌≡◌, ◌≤◌, ◌++◌, [], true, false, drop, length, map, slice_index, IfOk};
 ghost use Rattle.ir_ast.specs.Ops.{is_terminator};
 ghost use Rattle.entry_groups.specs.Entry.{put, put_line, group_values, first_lines, entry_lines, goes_on};
 
@@ -113,12 +113,20 @@ pub(crate) fn entry_lines(
     if insts.is_empty() {
         return Err(Memory);
     }
-    let first = insts.remove(0);
+    let nothing = no_line(alloc);
+    let first = mem::replace(&mut insts[0], nothing);
     put_all(alloc, row, insts.as_mut_slice());
-    let room = insts.len().saturating_add(group.relocates().len());
-    let mut lines = Vec::with_capacity(alloc, room.saturating_add(1))?;
+    let mut lines = Vec::with_capacity(alloc, group.relocates().len().saturating_add(1))?;
     push_first(alloc, token, group, first, &mut lines)?;
-    lines.append(&mut insts)?;
+    with_front(insts, lines)
+}
+
+// The lines with others in place of the first: where there is room, they stay where they are, and no memory is touched anew.
+fn with_front(mut lines: Vec<Inst>, front: Vec<Inst>) -> Result<Vec<Inst>, Memory>
+    requires { 1 ≤ length lines.items }
+    ensures { IfOk result (λ after. after.items ≡ front.items ++ drop 1 lines.items) }
+{
+    lines.splice(0..1, front)?;
     Ok(lines)
 }
 

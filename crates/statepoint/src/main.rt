@@ -6,12 +6,17 @@ use std::process::ExitCode;
 use std::{env, io};
 use tool_io::{DiskFiles, NoteSink, OutSink, Sink};
 
+// The C library gives a large chunk back to the system when it is let go, and the next one is touched for the first time again, page by
+// page. Once a chunk of this size was let go it keeps all that are no larger, which saves up to a third of the seconds of a large module.
+const LARGEST_KEPT: usize = 31 << 20;
+
 fn main(rt: HostRuntime) -> ExitCode {
     ExitCode::from(run(&rt).code())
 }
 
 // A word that isn't UTF-8 makes a faulty command line, as no word at all does.
 fn run(rt: &HostRuntime) -> Status {
+    drop(large_chunk(rt));
     let mut files = DiskFiles::new(rt);
     let mut out = OutSink::new(rt);
     let mut notes = NoteSink::new(rt.stderr());
@@ -25,6 +30,12 @@ fn run(rt: &HostRuntime) -> Status {
         }
         Err(_) => statepoint(rt.alloc(), &[], &mut files, &mut out, &mut notes),
     }
+}
+
+// A chunk of which no byte is touched. The compiler would leave it out where it is also let go.
+#[inline(never)]
+fn large_chunk(rt: &HostRuntime) -> Option<Vec<u8>> {
+    Vec::with_capacity(rt.alloc(), LARGEST_KEPT).ok()
 }
 
 fn words(rt: &HostRuntime) -> io::Result<Vec<String>> {
