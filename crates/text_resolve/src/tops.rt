@@ -159,21 +159,15 @@ fn is_own_basic(name: &[u8], answer: TypeWord, parameters: &[Argument]) -> bool
         b"print_i64",
         TypeWord::Void,
         &[I64],
-    ) || is_same(
-        name,
-        answer,
-        parameters,
-        b"read_i64",
-        I64,
-        &[],
-    ) || is_same(
-        name,
-        answer,
-        parameters,
-        b"task_start",
-        TypeWord::Void,
-        &[TypeWord::Plain, TypeWord::Managed],
-    )
+    ) || is_same(name, answer, parameters, b"read_i64", I64, &[])
+        || is_same(
+            name,
+            answer,
+            parameters,
+            b"task_start",
+            TypeWord::Void,
+            &[TypeWord::Plain, TypeWord::Managed],
+        )
 }
 
 fn is_own_helper(name: &[u8], answer: TypeWord, parameters: &[Argument]) -> bool
