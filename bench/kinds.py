@@ -52,12 +52,11 @@ def module(bodies):
                                        *body, '  ret void', '}', '', '']) for number, body in enumerate(bodies))
 
 
-def kinds():
-    """The modules by kind; those of many live pointers as large as their rewritten text may be."""
-    made = {kind.__name__: module([repeated(kind)] * 15) for kind in (line, joins, loops, calls)}
-    made['live'] = module([live(60, 500)] * 4)
-    made['live, a quarter'] = module([live(60, 500)])
-    return made
+# What makes each module; those of many live pointers are as large as their rewritten text may be.
+KINDS = {kind.__name__: lambda kind=kind: module([repeated(kind)] * 15) for kind in (line, joins, loops, calls)} | {
+    'live': lambda: module([live(60, 500)] * 4),
+    'live, a quarter': lambda: module([live(60, 500)]),
+}
 
 
 def ours(text):

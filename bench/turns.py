@@ -3,6 +3,7 @@ import os
 import re
 import subprocess
 import sys
+import time
 from dataclasses import dataclass
 
 
@@ -16,9 +17,21 @@ class Run:
     reads: int
 
 
+def write(path, make):
+    """Writes the text that `make` makes to a file, in a process of its own: what this one holds counts as a child's memory too. Gives its lines."""
+    child = os.fork()
+    if child == 0:
+        with open(path, 'w') as file:
+            file.write(make())
+        os._exit(0)
+    if os.waitpid(child, 0)[1]:
+        sys.exit(f'{path} could not be written')
+    with open(path, 'rb') as file:
+        return sum(1 for _ in file)
+
+
 def once(words, to, folder):
     """One run whose output goes `to` null, to a file or to a pipe."""
-    import time
     out = {'null': subprocess.DEVNULL, 'pipe': subprocess.PIPE}.get(to) or open(f'{folder}/out', 'wb')
     begin = time.monotonic()
     child = subprocess.Popen(words, stdout=out, stderr=subprocess.DEVNULL)
