@@ -7,7 +7,7 @@ use std::{env, io};
 use tool_io::{DiskFiles, NoteSink, OutSink, Sink};
 
 // The C library gives a large chunk back to the system when it is let go, and the next one is touched for the first time again, page by
-// page. Once a chunk of this size was let go it keeps all that are no larger, which saves up to a third of the seconds of a large module.
+// page. Once a chunk of this size was let go it keeps all that are no larger, so that a large module touches a third fewer pages.
 const LARGEST_KEPT: usize = 31 << 20;
 
 fn main(rt: HostRuntime) -> ExitCode {
