@@ -121,7 +121,7 @@ pub(crate) fn entry_lines(
     with_front(insts, lines)
 }
 
-// The lines with others in place of the first: where there is room, they stay where they are, and no memory is touched anew.
+// The lines with others in place of the first. Where their list has room they are moved up in it, and no memory is touched anew.
 fn with_front(mut lines: Vec<Inst>, front: Vec<Inst>) -> Result<Vec<Inst>, Memory>
     requires { 1 ≤ length lines.items }
     ensures { IfOk result (λ after. after.items ≡ front.items ++ drop 1 lines.items) }

@@ -1,7 +1,7 @@
 ghost use Rattle.std.specs.Prelude.{IsTrue};
 ghost use Rattle.line_tokens.specs.Numbers.{is_width};
 
-/// The width of an integer type.
+/// The width of an integer type in bits, from 1 to 64 (LLVM Language Reference, "Integer Type").
 #[derive(Clone, Copy, Debug, PartialEq, Eq)]
 pub struct Width {
     pub bits: u32,

@@ -7,7 +7,8 @@ use std::{env, io};
 use tool_io::{DiskFiles, NoteSink, OutSink, Sink};
 
 // The C library gives a large chunk back to the system when it is let go, and the next one is touched for the first time again, page by
-// page. Once a chunk of this size was let go it keeps all that are no larger, so that a large module touches a third fewer pages.
+// page. Once a chunk of this size was let go it keeps all that are no larger, and a large module touches a quarter to a third fewer
+// pages.
 const LARGEST_KEPT: usize = 31 << 20;
 
 fn main(rt: HostRuntime) -> ExitCode {
