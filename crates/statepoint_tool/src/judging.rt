@@ -8,6 +8,7 @@ ghost use Rattle.statepoint_tool.specs.Work.{Judging, MayGiveShown, after_check,
 
 use crate::phases::{module_in, take};
 use crate::refusal::{Cause, Refusal};
+use crate::show::leave;
 use crate::status::Status;
 use ir_ast::{Form, Module};
 use statepoint_verify::{Verified, VerifyFault, verify};
@@ -30,7 +31,9 @@ pub(crate) fn check<F: Files, O: Sink>(
     ensures out_counted { O.faults out.old ≤ O.faults out.new }
 {
     let checked = take_checked(alloc, files, name)?;
-    write_ok(&checked, out)
+    let written = write_ok(&checked, out);
+    leave(checked);
+    written
 }
 
 // The rewritten module in the file of this name, which is verified.

@@ -15,7 +15,7 @@ ghost use Rattle.statepoint_tool.specs.Work.{MayGiveShown, Rewriting, after_rewr
 use crate::maps::{write_map_bytes, write_map_text};
 use crate::phases::take_module;
 use crate::refusal::{Cause, ModuleFault, Refusal};
-use crate::show::show_module;
+use crate::show::{leave, show_module};
 use crate::status::Status;
 use ir_ast::{Form, Module};
 use sp_rewrite::RewriteFault;
@@ -56,7 +56,9 @@ fn rewrite_module<O: Sink>(
     ensures out_counted { O.faults out.old ≤ O.faults out.new }
 {
     let after = rewritten(alloc, read)?;
-    write_part(alloc, after.module(), part, out)
+    let written = write_part(alloc, after.module(), part, out);
+    leave(after);
+    written
 }
 
 fn write_part<O: Sink>(

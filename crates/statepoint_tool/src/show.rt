@@ -12,6 +12,7 @@ use crate::status::Status;
 use ir_ast::{Form, Module};
 use ir_printer::print;
 use std::alloc::Global;
+use std::mem;
 use tool_io::{Failed, Files, Sink};
 use tool_words::FileName;
 
@@ -30,7 +31,15 @@ pub(crate) fn show<F: Files, O: Sink>(
     ensures out_counted { O.faults out.old ≤ O.faults out.new }
 {
     let read = take_module(alloc, Form::Source, files, name)?;
-    show_module(&read, out)
+    let shown = show_module(&read, out);
+    leave(read);
+    shown
+}
+
+/// Leaves what a command no longer needs to the system, which takes all memory at once as the program ends: to let a module go is one more
+/// walk over all its instructions.
+pub(crate) fn leave<T: Drop>(done: T) {
+    mem::forget(done);
 }
 
 /// Writes the text of this module.

@@ -10,4 +10,4 @@ returns-in_err-checked-clause-works g c =
     (g.O.Sink.written c.args.out.now) (g.O.Sink.faults c.args.out.now) c.in_err-checked.ensures.read))
 
 pub returns-clause-works : goal.returns-clause-works
-returns-clause-works g c = Works-shown (Works-goes_on_at after_check c.in_ok-checked.ensures.read c.write_ok.ensures.came)
+returns-clause-works g c = Works-shown (Works-goes_on_at after_check c.in_ok-checked.ensures.read c.write_ok-written.ensures.came)

@@ -13,6 +13,6 @@ returns-in_err-after-clause-came g c =
 
 pub returns-clause-came : goal.returns-clause-came
 returns-clause-came g c =
-    Came-goes_on (Rewriting c.args.read.content) (after_rewriting c.args.part) c.in_ok-after.after.content c.write_part.result
-    (sink_seen (g.O.Sink.written c.args.out.now) (g.O.Sink.written c.write_part.new.out) (g.O.Sink.faults c.args.out.now) (g.O.Sink.faults c.write_part.new.out))
-    c.in_ok-after.ensures.rewrites (rw c.«module».ensures.value at c.write_part.ensures.came)
+    Came-goes_on (Rewriting c.args.read.content) (after_rewriting c.args.part) c.in_ok-after.after.content c.write_part-written.result
+    (sink_seen (g.O.Sink.written c.args.out.now) (g.O.Sink.written c.write_part-written.new.out) (g.O.Sink.faults c.args.out.now) (g.O.Sink.faults c.write_part-written.new.out))
+    c.in_ok-after.ensures.rewrites (rw c.«module».ensures.value at c.write_part-written.ensures.came)

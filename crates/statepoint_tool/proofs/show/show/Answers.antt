@@ -10,4 +10,4 @@ returns-in_err-read-clause-works g c =
     (g.O.Sink.written c.args.out.now) (g.O.Sink.faults c.args.out.now) c.in_err-read.ensures.read))
 
 pub returns-clause-works : goal.returns-clause-works
-returns-clause-works g c = Works-shown (Works-goes_on_at show_phase c.in_ok-read.ensures.read c.show_module.ensures.came)
+returns-clause-works g c = Works-shown (Works-goes_on_at show_phase c.in_ok-read.ensures.read c.show_module-shown.ensures.came)
