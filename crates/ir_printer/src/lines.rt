@@ -8,6 +8,7 @@ ghost use Rattle.ir_printer.specs.Lines.{arithmetic_text, comparison_text, conve
 
 use crate::calls::{Call, Relocate, ResultCall, Statepoint};
 use crate::operands::{Label, NextTyped, NextValue, Typed, Value, label_of, operand_of};
+use crate::puts::{put_both, put_then, put_three};
 use crate::words::{TypeWord, predicate_bytes};
 use ir_ast::{Elem, Inst, Name, Op, Operand, Ty};
 use piece_writer::{Bytes, Decimal, Joined, PairPrinter, Pairs, Piece, PieceSink, Printer};
@@ -17,15 +18,14 @@ use tool_io::Failed;
 
 // The operands of an arithmetic line or an `icmp`, after its words.
 #[derive(Drop)]
-struct Arithmetic<'a> {
+struct Both<'a> {
     scope: &'a Scope<'a>,
-    words: &'a [u8],
     inst: &'a Inst,
 }
 
-impl Piece for Arithmetic<'_> {
-    ghost text = { λ piece. piece.words.now ++ (typed_text piece.scope.now piece.inst.now.ty (operand_at piece.inst.now 0)
-        ++ (codes ", " ++ value_text piece.scope.now piece.inst.now.ty (operand_at piece.inst.now 1))) };
+impl Piece for Both<'_> {
+    ghost text = { λ piece. typed_text piece.scope.now piece.inst.now.ty (operand_at piece.inst.now 0)
+        ++ (codes ", " ++ value_text piece.scope.now piece.inst.now.ty (operand_at piece.inst.now 1)) };
 
     fn put_into<W: PieceSink>(&self, out: &mut W) -> Result<(), Failed> {
         let ty = *self.inst.ty();
@@ -39,7 +39,7 @@ impl Piece for Arithmetic<'_> {
             ty,
             operand: operand_of(self.inst, 1),
         };
-        (Bytes(self.words), left, right).put_into(out)
+        (left, right).put_into(out)
     }
 }
 
@@ -176,7 +176,7 @@ impl Piece for Element<'_> {
         match self.elem {
             Elem::Int(width) => TypeWord(Ty::Int(width)).put_into(out),
             Elem::Ptr => TypeWord(Ty::Ptr).put_into(out),
-            Elem::Layout(layout) => (Bytes(b"%"), Bytes(self.scope.layout(layout))).put_into(out),
+            Elem::Layout(layout) => put_both(b"%", self.scope.layout(layout), out),
         }
     }
 }
@@ -191,7 +191,7 @@ impl Piece for Place {
     fn put_into<W: PieceSink>(&self, out: &mut W) -> Result<(), Failed> {
         match self.0 {
             None => Ok(()),
-            Some(place) => (Bytes(b", i32 "), Decimal(place as u64)).put_into(out),
+            Some(place) => put_then(b", i32 ", &Decimal(place as u64), out),
         }
     }
 }
@@ -224,14 +224,8 @@ impl Piece for Step<'_> {
             ty: Ty::Int(self.index_width),
             operand: operand_of(self.inst, 1),
         };
-        (
-            Bytes(b"getelementptr "),
-            element,
-            pointer,
-            index,
-            Place(self.place),
-        )
-            .put_into(out)
+        let rest = (element, pointer, index, Place(self.place));
+        put_then(b"getelementptr ", &rest, out)
     }
 }
 
@@ -250,7 +244,8 @@ impl Piece for Load<'_> {
             ty: Ty::Ptr,
             operand: operand_of(self.inst, 0),
         };
-        (Bytes(b"load "), TypeWord(*self.inst.ty()), pointer).put_into(out)
+        let rest = (TypeWord(*self.inst.ty()), pointer);
+        put_then(b"load ", &rest, out)
     }
 }
 
@@ -274,7 +269,7 @@ impl Piece for Store<'_> {
             ty: Ty::Ptr,
             operand: operand_of(self.inst, 1),
         };
-        (Bytes(b"store "), value, pointer).put_into(out)
+        put_then(b"store ", &(value, pointer), out)
     }
 }
 
@@ -427,7 +422,7 @@ impl Piece for Answer<'_> {
             ty: self.ty,
             operand: operand_of(self.inst, 0),
         };
-        (Bytes(b"ret "), answer).put_into(out)
+        put_then(b"ret ", &answer, out)
     }
 }
 
@@ -460,7 +455,7 @@ impl Piece for Front<'_> {
     fn put_into<W: PieceSink>(&self, out: &mut W) -> Result<(), Failed> {
         match self.0 {
             None => out.put(b"  "),
-            Some(name) => (Bytes(b"  %"), Bytes(name.bytes()), Bytes(b" = ")).put_into(out),
+            Some(name) => put_three(b"  %", name.bytes(), b" = ", out),
         }
     }
 }
@@ -474,12 +469,11 @@ struct Operation<'a> {
 }
 
 impl<'a> Operation<'a> {
-    fn arithmetic(&self, words: &'a [u8]) -> Arithmetic<'a>
-        ensures { result ≡ record { scope = self.now.scope; words = words.entry; inst = self.now.inst } }
+    fn both(&self) -> Both<'a>
+        ensures { result ≡ record { scope = self.now.scope; inst = self.now.inst } }
     {
-        Arithmetic {
+        Both {
             scope: self.scope,
-            words,
             inst: self.inst,
         }
     }
@@ -502,22 +496,22 @@ impl Piece for Operation<'_> {
     fn put_into<W: PieceSink>(&self, out: &mut W) -> Result<(), Failed> {
         let (scope, inst) = (self.scope, self.inst);
         match self.op {
-            Op::Add => self.arithmetic(b"add ").put_into(out),
-            Op::Sub => self.arithmetic(b"sub ").put_into(out),
-            Op::Mul => self.arithmetic(b"mul ").put_into(out),
-            Op::Udiv => self.arithmetic(b"udiv ").put_into(out),
-            Op::Sdiv => self.arithmetic(b"sdiv ").put_into(out),
-            Op::Urem => self.arithmetic(b"urem ").put_into(out),
-            Op::Srem => self.arithmetic(b"srem ").put_into(out),
-            Op::And => self.arithmetic(b"and ").put_into(out),
-            Op::Or => self.arithmetic(b"or ").put_into(out),
-            Op::Xor => self.arithmetic(b"xor ").put_into(out),
-            Op::Shl => self.arithmetic(b"shl ").put_into(out),
-            Op::Lshr => self.arithmetic(b"lshr ").put_into(out),
-            Op::Ashr => self.arithmetic(b"ashr ").put_into(out),
+            Op::Add => put_then(b"add ", &self.both(), out),
+            Op::Sub => put_then(b"sub ", &self.both(), out),
+            Op::Mul => put_then(b"mul ", &self.both(), out),
+            Op::Udiv => put_then(b"udiv ", &self.both(), out),
+            Op::Sdiv => put_then(b"sdiv ", &self.both(), out),
+            Op::Urem => put_then(b"urem ", &self.both(), out),
+            Op::Srem => put_then(b"srem ", &self.both(), out),
+            Op::And => put_then(b"and ", &self.both(), out),
+            Op::Or => put_then(b"or ", &self.both(), out),
+            Op::Xor => put_then(b"xor ", &self.both(), out),
+            Op::Shl => put_then(b"shl ", &self.both(), out),
+            Op::Lshr => put_then(b"lshr ", &self.both(), out),
+            Op::Ashr => put_then(b"ashr ", &self.both(), out),
             Op::Icmp(pred) => {
-                let compared = self.arithmetic(b" ");
-                (Bytes(b"icmp "), Bytes(predicate_bytes(*pred)), compared).put_into(out)
+                let word = predicate_bytes(*pred);
+                (Bytes(b"icmp "), Bytes(word), Bytes(b" "), self.both()).put_into(out)
             }
             Op::Trunc(width) => self.conversion(b"trunc", *width).put_into(out),
             Op::Zext(width) => self.conversion(b"zext", *width).put_into(out),
@@ -557,7 +551,7 @@ impl Piece for Operation<'_> {
             Op::GcRelocate => Relocate { scope, inst }.put_into(out),
             Op::Br => {
                 let block = label_of(inst, 0);
-                (Bytes(b"br label "), Label { scope, block }).put_into(out)
+                put_then(b"br label ", &Label { scope, block }, out)
             }
             Op::CondBr => Branch { scope, inst }.put_into(out),
             Op::Switch => Switch { scope, inst }.put_into(out),

@@ -1,5 +1,5 @@
 //! Types, predicates and integers.
-ghost use Rattle.std.specs.Prelude.{◌≡◌, ◌≤◌, ◌++◌, ℕ, List, OnOk, OnErr};
+ghost use Rattle.std.specs.Prelude.{◌≡◌, ◌≤◌, ◌<◌, ◌++◌, ℕ, List, OnOk, OnErr};
 ghost use Rattle.std.specs.Prelude.{decimal};
 ghost use Rattle.ir_printer.specs.Words.{type_text, predicate_word, integer_text, strategy_text};
 
@@ -43,6 +43,9 @@ impl Piece for Integer {
 fn integer_bytes(width: u32, number: u64, buffer: &mut Buffer) -> &[u8]
     ensures { result.now ≡ integer_text width number }
 {
+    if width >= 8 && number < 10 {
+        return digit(number);
+    }
     if width == 1 {
         return if wrap(1, number) == 0 {
             b"false"
@@ -56,6 +59,25 @@ fn integer_bytes(width: u32, number: u64, buffer: &mut Buffer) -> &[u8]
         buffer.format(sign(width, number)).as_bytes()
     } else {
         buffer.format(number).as_bytes()
+    }
+}
+
+// Most integers of a text are digits.
+fn digit(number: u64) -> &'static [u8]
+    requires { number < 10 }
+    ensures { result.now ≡ decimal number }
+{
+    match number {
+        0 => b"0",
+        1 => b"1",
+        2 => b"2",
+        3 => b"3",
+        4 => b"4",
+        5 => b"5",
+        6 => b"6",
+        7 => b"7",
+        8 => b"8",
+        _ => b"9",
     }
 }
 
