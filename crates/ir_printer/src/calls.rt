@@ -6,9 +6,7 @@ ghost use Rattle.ir_printer.specs.Operands.{parameter_text, typed_text, argument
 ghost use Rattle.ir_printer.specs.Lists.{joined};
 ghost use Rattle.ir_printer.specs.Calls.{callee_name, deopt_text, live_text, bundles_text, call_start_text, call_text, statepoint_words, elementtype_words, end_words, arguments_of, target_text, counted_text, statepoint_text, result_suffix, result_words, result_text, relocate_words, relocate_text};
 
-use crate::operands::{
-    Argument, NextArgument, NextTyped, ParameterWord, Typed, Value, operand_of,
-};
+use crate::operands::{Argument, NextArgument, NextTyped, ParameterWord, Typed, Value, operand_of};
 use crate::puts::{put_both, put_then};
 use crate::runs::put_from;
 use crate::words::{Integer, TypeWord};
@@ -32,9 +30,7 @@ impl Piece for CalleeName<'_> {
     fn put_into<W: PieceSink>(&self, out: &mut W) -> Result<(), Failed> {
         match self.callee {
             Callee::Fun(func) => out.put(self.scope.function(func)),
-            Callee::New(layout) => {
-                put_both(b"gc_new.", self.scope.layout(layout), out)
-            }
+            Callee::New(layout) => { put_both(b"gc_new.", self.scope.layout(layout), out) }
             Callee::Print => out.put(b"print_i64"),
             Callee::Read => out.put(b"read_i64"),
             Callee::TaskStart => out.put(b"task_start"),

@@ -1,5 +1,5 @@
 //! The line of each instruction.
-ghost use Rattle.std.specs.Prelude.{◌≡◌, ◌++◌, ℕ, List, [], codes, map, drop};
+ghost use Rattle.std.specs.Prelude.{◌≡◌, ◌++◌, ℕ, List, [], codes, map, drop, OnOk, OnErr};
 ghost use Rattle.std.specs.List.{zip};
 ghost use Rattle.ir_ast.specs.declared.types.Ty.TheVariants.{Void, Int};
 ghost use Rattle.ir_printer.specs.Words.{type_text};
@@ -10,13 +10,13 @@ use crate::calls::{Call, Relocate, ResultCall, Statepoint};
 use crate::operands::{Label, NextTyped, NextValue, Typed, Value, label_of, operand_of};
 use crate::puts::{put_both, put_then, put_three};
 use crate::words::{TypeWord, predicate_bytes};
-use ir_ast::{Elem, Inst, Name, Op, Operand, Ty};
+use ir_ast::{Elem, Inst, Name, Op, Operand, Pred, Ty};
 use piece_writer::{Bytes, Decimal, Joined, PairPrinter, Pairs, Piece, PieceSink, Printer};
 use print_tables::Scope;
 use sp_ids::BlockId;
 use tool_io::Failed;
 
-// The operands of an arithmetic line or an `icmp`, after its words.
+// The operands of a line with two, after its words.
 #[derive(Drop)]
 struct Both<'a> {
     scope: &'a Scope<'a>,
@@ -43,25 +43,34 @@ impl Piece for Both<'_> {
     }
 }
 
-#[derive(Drop)]
-struct Conversion<'a> {
-    scope: &'a Scope<'a>,
-    word: &'a [u8],
-    width: u32,
-    inst: &'a Inst,
-}
+// What is seldom put stands apart, so that room for it isn't cleared for each line.
+impl Both<'_> {
+    #[inline(never)]
+    fn put_comparison<W: PieceSink>(&self, pred: Pred, out: &mut W) -> Result<(), Failed>
+        ensures ok { OnOk result (W.took out.old out.new (comparison_text self.now.scope.now pred self.now.inst.now)) }
+        ensures err { OnErr result (W.failed_within out.old out.new (comparison_text self.now.scope.now pred self.now.inst.now)) }
+    {
+        let word = predicate_bytes(pred);
+        (Bytes(b"icmp "), Bytes(word), Bytes(b" "), self).put_into(out)
+    }
 
-impl Piece for Conversion<'_> {
-    ghost text = { λ piece. conversion_text piece.scope.now piece.word.now piece.width piece.inst.now };
-
-    fn put_into<W: PieceSink>(&self, out: &mut W) -> Result<(), Failed> {
+    #[inline(never)]
+    fn put_conversion<W: PieceSink>(
+        &self,
+        word: &[u8],
+        width: u32,
+        out: &mut W,
+    ) -> Result<(), Failed>
+        ensures ok { OnOk result (W.took out.old out.new (conversion_text self.now.scope.now word.now width self.now.inst.now)) }
+        ensures err { OnErr result (W.failed_within out.old out.new (conversion_text self.now.scope.now word.now width self.now.inst.now)) }
+    {
         let from = Typed {
             scope: self.scope,
             ty: *self.inst.ty(),
             operand: operand_of(self.inst, 0),
         };
-        let to = TypeWord(Ty::Int(self.width));
-        (Bytes(self.word), Bytes(b" "), from, Bytes(b" to "), to).put_into(out)
+        let to = TypeWord(Ty::Int(width));
+        (Bytes(word), Bytes(b" "), from, Bytes(b" to "), to).put_into(out)
     }
 }
 
@@ -463,59 +472,33 @@ impl Piece for Front<'_> {
 // A line after its result.
 #[derive(Drop)]
 struct Operation<'a> {
-    scope: &'a Scope<'a>,
     op: &'a Op,
-    inst: &'a Inst,
-}
-
-impl<'a> Operation<'a> {
-    fn both(&self) -> Both<'a>
-        ensures { result ≡ record { scope = self.now.scope; inst = self.now.inst } }
-    {
-        Both {
-            scope: self.scope,
-            inst: self.inst,
-        }
-    }
-
-    fn conversion(&self, word: &'a [u8], width: u32) -> Conversion<'a>
-        ensures { result ≡ record { scope = self.now.scope; word = word.entry; width = width; inst = self.now.inst } }
-    {
-        Conversion {
-            scope: self.scope,
-            word,
-            width,
-            inst: self.inst,
-        }
-    }
+    both: Both<'a>,
 }
 
 impl Piece for Operation<'_> {
-    ghost text = { λ piece. operator_text piece.scope.now piece.op.now piece.inst.now };
+    ghost text = { λ piece. operator_text piece.both.scope.now piece.op.now piece.both.inst.now };
 
     fn put_into<W: PieceSink>(&self, out: &mut W) -> Result<(), Failed> {
-        let (scope, inst) = (self.scope, self.inst);
+        let (scope, inst) = (self.both.scope, self.both.inst);
         match self.op {
-            Op::Add => put_then(b"add ", &self.both(), out),
-            Op::Sub => put_then(b"sub ", &self.both(), out),
-            Op::Mul => put_then(b"mul ", &self.both(), out),
-            Op::Udiv => put_then(b"udiv ", &self.both(), out),
-            Op::Sdiv => put_then(b"sdiv ", &self.both(), out),
-            Op::Urem => put_then(b"urem ", &self.both(), out),
-            Op::Srem => put_then(b"srem ", &self.both(), out),
-            Op::And => put_then(b"and ", &self.both(), out),
-            Op::Or => put_then(b"or ", &self.both(), out),
-            Op::Xor => put_then(b"xor ", &self.both(), out),
-            Op::Shl => put_then(b"shl ", &self.both(), out),
-            Op::Lshr => put_then(b"lshr ", &self.both(), out),
-            Op::Ashr => put_then(b"ashr ", &self.both(), out),
-            Op::Icmp(pred) => {
-                let word = predicate_bytes(*pred);
-                (Bytes(b"icmp "), Bytes(word), Bytes(b" "), self.both()).put_into(out)
-            }
-            Op::Trunc(width) => self.conversion(b"trunc", *width).put_into(out),
-            Op::Zext(width) => self.conversion(b"zext", *width).put_into(out),
-            Op::Sext(width) => self.conversion(b"sext", *width).put_into(out),
+            Op::Add => put_then(b"add ", &self.both, out),
+            Op::Sub => put_then(b"sub ", &self.both, out),
+            Op::Mul => put_then(b"mul ", &self.both, out),
+            Op::Udiv => put_then(b"udiv ", &self.both, out),
+            Op::Sdiv => put_then(b"sdiv ", &self.both, out),
+            Op::Urem => put_then(b"urem ", &self.both, out),
+            Op::Srem => put_then(b"srem ", &self.both, out),
+            Op::And => put_then(b"and ", &self.both, out),
+            Op::Or => put_then(b"or ", &self.both, out),
+            Op::Xor => put_then(b"xor ", &self.both, out),
+            Op::Shl => put_then(b"shl ", &self.both, out),
+            Op::Lshr => put_then(b"lshr ", &self.both, out),
+            Op::Ashr => put_then(b"ashr ", &self.both, out),
+            Op::Icmp(pred) => self.both.put_comparison(*pred, out),
+            Op::Trunc(width) => self.both.put_conversion(b"trunc", *width, out),
+            Op::Zext(width) => self.both.put_conversion(b"zext", *width, out),
+            Op::Sext(width) => self.both.put_conversion(b"sext", *width, out),
             Op::Select => Select { scope, inst }.put_into(out),
             Op::Phi => Phi { scope, inst }.put_into(out),
             Op::Gep {
@@ -573,9 +556,11 @@ impl Printer<Inst> for Lines<'_> {
 
     fn put_element<W: PieceSink>(&self, inst: &Inst, out: &mut W) -> Result<(), Failed> {
         let operation = Operation {
-            scope: self.0,
             op: inst.op(),
-            inst,
+            both: Both {
+                scope: self.0,
+                inst,
+            },
         };
         (Front(inst.result()), operation, Bytes(b"\n")).put_into(out)
     }

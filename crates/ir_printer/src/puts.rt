@@ -21,11 +21,7 @@ pub(crate) fn put_then<P: Piece, W: PieceSink>(
 
 /// Puts bytes, and other bytes after them.
 #[inline(always)]
-pub(crate) fn put_both<W: PieceSink>(
-    front: &[u8],
-    rest: &[u8],
-    out: &mut W,
-) -> Result<(), Failed>
+pub(crate) fn put_both<W: PieceSink>(front: &[u8], rest: &[u8], out: &mut W) -> Result<(), Failed>
     ensures ok { OnOk result (W.took out.old out.new (front.now ++ rest.now)) }
     ensures err { OnErr result (W.failed_within out.old out.new (front.now ++ rest.now)) }
 {
