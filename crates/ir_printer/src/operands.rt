@@ -1,5 +1,5 @@
 //! Operands and labels as they stand in a line.
-ghost use Rattle.std.specs.Prelude.{◌≡◌, ◌++◌, ℕ, List, codes};
+ghost use Rattle.std.specs.Prelude.{◌≡◌, ◌++◌, ℕ, List, codes, OnOk, OnErr};
 ghost use Rattle.ir_printer.specs.Words.{type_text};
 ghost use Rattle.ir_printer.specs.Operands.{literal_text, value_text, typed_text, parameter_text, argument_text, label_text, operand_at, label_at};
 
@@ -55,31 +55,38 @@ pub(crate) struct Typed<'a> {
     pub operand: Operand,
 }
 
+// Most operands have their type and their `%` put at once. The others stand apart, so that room for
+// them isn't cleared for each operand.
+impl Typed<'_> {
+    #[inline(never)]
+    fn put_apart<W: PieceSink>(&self, out: &mut W) -> Result<(), Failed>
+        ensures ok { OnOk result (W.took out.old out.new (typed_text self.now.scope.now self.now.ty self.now.operand)) }
+        ensures err { OnErr result (W.failed_within out.old out.new (typed_text self.now.scope.now self.now.ty self.now.operand)) }
+    {
+        let value = Value {
+            scope: self.scope,
+            ty: self.ty,
+            operand: self.operand,
+        };
+        (TypeWord(self.ty), Bytes(b" "), value).put_into(out)
+    }
+}
+
 impl Piece for Typed<'_> {
     ghost text = { λ piece. typed_text piece.scope.now piece.ty piece.operand };
 
     fn put_into<W: PieceSink>(&self, out: &mut W) -> Result<(), Failed> {
         match self.operand {
-            Operand::Value(value) => {
-                let name = self.scope.value(value);
-                match self.ty {
-                    Ty::Ptr => put_both(b"ptr addrspace(1) %", name, out),
-                    Ty::Int(64) => put_both(b"i64 %", name, out),
-                    ty => (TypeWord(ty), Bytes(b" %"), Bytes(name)).put_into(out),
-                }
-            }
+            Operand::Value(value) => match self.ty {
+                Ty::Ptr => put_both(b"ptr addrspace(1) %", self.scope.value(value), out),
+                Ty::Int(64) => put_both(b"i64 %", self.scope.value(value), out),
+                _ => self.put_apart(out),
+            },
             Operand::Int(number) => match self.ty {
                 Ty::Int(64) => put_then(b"i64 ", &Integer(64, number), out),
-                ty => (TypeWord(ty), Bytes(b" "), Literal(ty, number)).put_into(out),
+                _ => self.put_apart(out),
             },
-            operand => {
-                let value = Value {
-                    scope: self.scope,
-                    ty: self.ty,
-                    operand,
-                };
-                (TypeWord(self.ty), Bytes(b" "), value).put_into(out)
-            }
+            _ => self.put_apart(out),
         }
     }
 }
@@ -92,32 +99,37 @@ pub(crate) struct NextTyped<'a> {
     pub operand: Operand,
 }
 
+impl NextTyped<'_> {
+    #[inline(never)]
+    fn put_apart<W: PieceSink>(&self, out: &mut W) -> Result<(), Failed>
+        ensures ok { OnOk result (W.took out.old out.new (codes ", " ++ typed_text self.now.scope.now self.now.ty self.now.operand)) }
+        ensures err { OnErr result (W.failed_within out.old out.new (codes ", " ++ typed_text self.now.scope.now self.now.ty self.now.operand)) }
+    {
+        let typed = Typed {
+            scope: self.scope,
+            ty: self.ty,
+            operand: self.operand,
+        };
+        put_then(b", ", &typed, out)
+    }
+}
+
 impl Piece for NextTyped<'_> {
     ghost text = { λ piece. codes ", " ++ typed_text piece.scope.now piece.ty piece.operand };
 
     fn put_into<W: PieceSink>(&self, out: &mut W) -> Result<(), Failed> {
         match self.operand {
-            Operand::Value(value) => {
-                let name = self.scope.value(value);
-                match self.ty {
-                    Ty::Ptr => put_both(b", ptr addrspace(1) %", name, out),
-                    Ty::Int(64) => put_both(b", i64 %", name, out),
-                    ty => (Bytes(b", "), TypeWord(ty), Bytes(b" %"), Bytes(name)).put_into(out),
-                }
-            }
+            Operand::Value(value) => match self.ty {
+                Ty::Ptr => put_both(b", ptr addrspace(1) %", self.scope.value(value), out),
+                Ty::Int(64) => put_both(b", i64 %", self.scope.value(value), out),
+                _ => self.put_apart(out),
+            },
             Operand::Int(number) => match self.ty {
                 Ty::Int(64) => put_then(b", i64 ", &Integer(64, number), out),
                 Ty::Int(32) => put_then(b", i32 ", &Integer(32, number), out),
-                ty => (Bytes(b", "), TypeWord(ty), Bytes(b" "), Literal(ty, number)).put_into(out),
+                _ => self.put_apart(out),
             },
-            operand => {
-                let typed = Typed {
-                    scope: self.scope,
-                    ty: self.ty,
-                    operand,
-                };
-                put_then(b", ", &typed, out)
-            }
+            _ => self.put_apart(out),
         }
     }
 }
