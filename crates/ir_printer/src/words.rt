@@ -31,21 +31,32 @@ impl Piece for TypeWord {
 #[derive(Clone, Copy)]
 pub(crate) struct Integer(pub u32, pub u64);
 
+impl Integer {
+    #[inline(never)]
+    fn put_apart<W: PieceSink>(&self, out: &mut W) -> Result<(), Failed>
+        ensures ok { OnOk result (W.took out.old out.new (integer_text self.now.0 self.now.1)) }
+        ensures err { OnErr result (W.failed_within out.old out.new (integer_text self.now.0 self.now.1)) }
+    {
+        let mut buffer = Buffer::new();
+        out.put(integer_bytes(self.0, self.1, &mut buffer))
+    }
+}
+
 impl Piece for Integer {
     ghost text = { λ piece. integer_text piece.0 piece.1 };
 
     fn put_into<W: PieceSink>(&self, out: &mut W) -> Result<(), Failed> {
-        let mut buffer = Buffer::new();
-        out.put(integer_bytes(self.0, self.1, &mut buffer))
+        let (width, number) = (self.0, self.1);
+        if width >= 8 && number < 10 {
+            return out.put(digit(number));
+        }
+        self.put_apart(out)
     }
 }
 
 fn integer_bytes(width: u32, number: u64, buffer: &mut Buffer) -> &[u8]
     ensures { result.now ≡ integer_text width number }
 {
-    if width >= 8 && number < 10 {
-        return digit(number);
-    }
     if width == 1 {
         return if wrap(1, number) == 0 {
             b"false"

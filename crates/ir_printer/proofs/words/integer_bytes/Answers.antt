@@ -1,12 +1,8 @@
 use Rattle.std.proofs.Common.{sym, arith, ◌∙◌}
 use Rattle.std.proofs.lemmas.Grind.{common_steps}
 use Rattle.std.proofs.lemmas.Int.{to_z-of_z}
-use Rattle.ir_printer.proofs.IntegerLemmas.{integer-digit, integer-empty, integer-false, integer-true, integer-signed, integer-wide}
+use Rattle.ir_printer.proofs.IntegerLemmas.{integer-empty, integer-false, integer-true, integer-signed, integer-wide}
 use Rattle.ir_printer.proofs.words.integer_bytes.Goals as goal
-
-pub returns-then-number-lt10 : goal.returns-then-number-lt10
-returns-then-number-lt10 c =
-    c.digit.ensures ∙ sym (integer-digit c.args.width c.args.number c.if-width-ge8.true c.if-number-lt10.true)
 
 pub returns-then-wrap-eq0 : goal.returns-then-wrap-eq0
 returns-then-wrap-eq0 c =
