@@ -253,8 +253,10 @@ impl Piece for Load<'_> {
             ty: Ty::Ptr,
             operand: operand_of(self.inst, 0),
         };
-        let rest = (TypeWord(*self.inst.ty()), pointer);
-        put_then(b"load ", &rest, out)
+        match *self.inst.ty() {
+            Ty::Int(64) => put_then(b"load i64", &pointer, out),
+            ty => put_then(b"load ", &(TypeWord(ty), pointer), out),
+        }
     }
 }
 
