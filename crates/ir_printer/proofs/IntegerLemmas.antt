@@ -35,6 +35,15 @@ integer-wide width number wide word =
     let test : nat_lt (2 * number) (2 ^ width) ≡ true = lt-ltb _ _ (omega arith) in
     rw (integer-signed width number other, same, test)
 
+-- a digit
+pub integer-digit : (width number : ℕ) → 8 ≤ width → number < 10 → integer_text width number ≡ decimal number
+integer-digit width number wide low =
+    let other : width ≢ 1 = omega arith in
+    let more : 2 ^ 8 ≤ 2 ^ width = pow-le-pow_right {n = 2} (omega arith) wide in
+    let same : number % 2 ^ width ≡ number = mod-eq_of_lt (omega arith) in
+    let test : nat_lt (2 * number) (2 ^ width) ≡ true = lt-ltb _ _ (omega arith) in
+    rw (integer-signed width number other, same, test)
+
 -- the widths that most lines have
 pub decimal-64 : decimal 64 ≡ codes "64"
 unfolding digits

@@ -4,3 +4,4 @@ pub mod LineLemmas
 pub mod DeclarationLemmas
 pub mod TextLemmas
 pub mod OperandLemmas
+pub mod RunLemmas

@@ -3,13 +3,16 @@ ghost use Rattle.std.specs.Prelude.{◌≡◌, ◌≤◌, ◌++◌, ℕ, List, [
 ghost use Rattle.std.specs.List.{zip};
 ghost use Rattle.ir_ast.specs.declared.types.Ty.TheVariants.{Ptr};
 ghost use Rattle.ir_printer.specs.Operands.{parameter_text, typed_text, argument_text};
-ghost use Rattle.ir_printer.specs.Calls.{callee_name, deopt_text, live_text, bundles_text, call_start_text, call_text, statepoint_words, elementtype_words, end_words, target_text, counted_text, statepoint_text, result_suffix, result_words, result_text, relocate_words, relocate_text};
+ghost use Rattle.ir_printer.specs.Lists.{joined};
+ghost use Rattle.ir_printer.specs.Calls.{callee_name, deopt_text, live_text, bundles_text, call_start_text, call_text, statepoint_words, elementtype_words, end_words, arguments_of, target_text, counted_text, statepoint_text, result_suffix, result_words, result_text, relocate_words, relocate_text};
 
-use crate::operands::{Argument, NextTyped, ParameterWord, Typed, Value, operand_of};
+use crate::operands::{Argument, NextArgument, NextTyped, ParameterWord, Typed, Value, operand_of};
+use crate::puts::{put_both, put_then};
+use crate::runs::put_from;
 use crate::words::{Integer, TypeWord};
 use ir_ast::{Callee, Inst, Operand, Ty};
 use piece_writer::{
-    Bytes, Decimal, Each, Joined, Led, PairPrinter, Pairs, Piece, PieceSink, Printer,
+    Bytes, Decimal, Each, Joined, Led, PairPrinter, Pairs, Piece, PieceSink, Printer, Row,
 };
 use print_tables::{Scope, after};
 use tool_io::Failed;
@@ -27,9 +30,7 @@ impl Piece for CalleeName<'_> {
     fn put_into<W: PieceSink>(&self, out: &mut W) -> Result<(), Failed> {
         match self.callee {
             Callee::Fun(func) => out.put(self.scope.function(func)),
-            Callee::New(layout) => {
-                (Bytes(b"gc_new."), Bytes(self.scope.layout(layout))).put_into(out)
-            }
+            Callee::New(layout) => { put_both(b"gc_new.", self.scope.layout(layout), out) }
             Callee::Print => out.put(b"print_i64"),
             Callee::Read => out.put(b"read_i64"),
             Callee::TaskStart => out.put(b"task_start"),
@@ -59,6 +60,55 @@ impl PairPrinter<Ty, Operand> for Arguments<'_> {
             operand: *operand,
         }
         .put_into(out)
+    }
+}
+
+// Puts an argument beside its type, after a comma.
+#[derive(Drop)]
+struct NextArguments<'a>(&'a Scope<'a>);
+
+impl PairPrinter<Ty, Operand> for NextArguments<'_> {
+    ghost pair_text = { λ printer ty operand. codes ", " ++ argument_text printer.0.now ty operand };
+
+    fn put_pair<W: PieceSink>(
+        &self,
+        ty: &Ty,
+        operand: &Operand,
+        out: &mut W,
+    ) -> Result<(), Failed> {
+        NextArgument {
+            scope: self.0,
+            ty: *ty,
+            operand: *operand,
+        }
+        .put_into(out)
+    }
+}
+
+// Arguments with commas between them.
+#[derive(Drop)]
+struct ArgumentList<'a> {
+    scope: &'a Scope<'a>,
+    types: &'a [Ty],
+    operands: &'a [Operand],
+}
+
+impl Piece for ArgumentList<'_> {
+    ghost text = { λ piece. joined (codes ", ") (arguments_of piece.scope.now piece.types.now piece.operands.now) };
+
+    fn put_into<W: PieceSink>(&self, out: &mut W) -> Result<(), Failed> {
+        let arguments = Pairs {
+            printer: Arguments(self.scope),
+            first: self.types,
+            second: self.operands,
+        };
+        arguments.put_at(0, out)?;
+        let next = Pairs {
+            printer: NextArguments(self.scope),
+            first: self.types,
+            second: self.operands,
+        };
+        put_from(&next, 1, out)
     }
 }
 
@@ -125,7 +175,7 @@ impl Piece for Deopt<'_> {
                 elements: self.bundle,
             },
         };
-        (Bytes(b"\"deopt\"("), entries, Bytes(b")")).put_into(out)
+        put_then(b"\"deopt\"(", &(entries, Bytes(b")")), out)
     }
 }
 
@@ -146,7 +196,7 @@ impl Piece for Live<'_> {
                 elements: self.entries,
             },
         };
-        (Bytes(b"\"gc-live\"("), entries, Bytes(b")")).put_into(out)
+        put_then(b"\"gc-live\"(", &(entries, Bytes(b")")), out)
     }
 }
 
@@ -197,13 +247,10 @@ impl Piece for Call<'_> {
     ghost text = { λ piece. call_text piece.scope.now piece.callee piece.types.now piece.inst.now };
 
     fn put_into<W: PieceSink>(&self, out: &mut W) -> Result<(), Failed> {
-        let arguments = Joined {
-            separator: b", ",
-            row: Pairs {
-                printer: Arguments(self.scope),
-                first: self.types,
-                second: self.inst.operands(),
-            },
+        let arguments = ArgumentList {
+            scope: self.scope,
+            types: self.types,
+            operands: self.inst.operands(),
         };
         let bundles = Bundles {
             scope: self.scope,

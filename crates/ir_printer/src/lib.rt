@@ -5,6 +5,8 @@ mod calls;
 mod declarations;
 mod lines;
 mod operands;
+mod puts;
+mod runs;
 mod texts;
 mod words;
 

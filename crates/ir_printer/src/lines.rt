@@ -1,5 +1,5 @@
 //! The line of each instruction.
-ghost use Rattle.std.specs.Prelude.{◌≡◌, ◌++◌, ℕ, List, [], codes, map, drop};
+ghost use Rattle.std.specs.Prelude.{◌≡◌, ◌++◌, ℕ, List, [], codes, map, drop, OnOk, OnErr};
 ghost use Rattle.std.specs.List.{zip};
 ghost use Rattle.ir_ast.specs.declared.types.Ty.TheVariants.{Void, Int};
 ghost use Rattle.ir_printer.specs.Words.{type_text};
@@ -8,24 +8,24 @@ ghost use Rattle.ir_printer.specs.Lines.{arithmetic_text, comparison_text, conve
 
 use crate::calls::{Call, Relocate, ResultCall, Statepoint};
 use crate::operands::{Label, NextTyped, NextValue, Typed, Value, label_of, operand_of};
+use crate::puts::{put_both, put_then, put_three};
 use crate::words::{TypeWord, predicate_bytes};
-use ir_ast::{Elem, Inst, Name, Op, Operand, Ty};
+use ir_ast::{Elem, Inst, Name, Op, Operand, Pred, Ty};
 use piece_writer::{Bytes, Decimal, Joined, PairPrinter, Pairs, Piece, PieceSink, Printer};
 use print_tables::Scope;
 use sp_ids::BlockId;
 use tool_io::Failed;
 
-// The operands of an arithmetic line or an `icmp`, after its words.
+// The operands of a line with two, after its words.
 #[derive(Drop)]
-struct Arithmetic<'a> {
+struct Both<'a> {
     scope: &'a Scope<'a>,
-    words: &'a [u8],
     inst: &'a Inst,
 }
 
-impl Piece for Arithmetic<'_> {
-    ghost text = { λ piece. piece.words.now ++ (typed_text piece.scope.now piece.inst.now.ty (operand_at piece.inst.now 0)
-        ++ (codes ", " ++ value_text piece.scope.now piece.inst.now.ty (operand_at piece.inst.now 1))) };
+impl Piece for Both<'_> {
+    ghost text = { λ piece. typed_text piece.scope.now piece.inst.now.ty (operand_at piece.inst.now 0)
+        ++ (codes ", " ++ value_text piece.scope.now piece.inst.now.ty (operand_at piece.inst.now 1)) };
 
     fn put_into<W: PieceSink>(&self, out: &mut W) -> Result<(), Failed> {
         let ty = *self.inst.ty();
@@ -39,29 +39,38 @@ impl Piece for Arithmetic<'_> {
             ty,
             operand: operand_of(self.inst, 1),
         };
-        (Bytes(self.words), left, right).put_into(out)
+        (left, right).put_into(out)
     }
 }
 
-#[derive(Drop)]
-struct Conversion<'a> {
-    scope: &'a Scope<'a>,
-    word: &'a [u8],
-    width: u32,
-    inst: &'a Inst,
-}
+// What is seldom put stands apart, so that room for it isn't cleared for each line.
+impl Both<'_> {
+    #[inline(never)]
+    fn put_comparison<W: PieceSink>(&self, pred: Pred, out: &mut W) -> Result<(), Failed>
+        ensures ok { OnOk result (W.took out.old out.new (comparison_text self.now.scope.now pred self.now.inst.now)) }
+        ensures err { OnErr result (W.failed_within out.old out.new (comparison_text self.now.scope.now pred self.now.inst.now)) }
+    {
+        let word = predicate_bytes(pred);
+        (Bytes(b"icmp "), Bytes(word), Bytes(b" "), self).put_into(out)
+    }
 
-impl Piece for Conversion<'_> {
-    ghost text = { λ piece. conversion_text piece.scope.now piece.word.now piece.width piece.inst.now };
-
-    fn put_into<W: PieceSink>(&self, out: &mut W) -> Result<(), Failed> {
+    #[inline(never)]
+    fn put_conversion<W: PieceSink>(
+        &self,
+        word: &[u8],
+        width: u32,
+        out: &mut W,
+    ) -> Result<(), Failed>
+        ensures ok { OnOk result (W.took out.old out.new (conversion_text self.now.scope.now word.now width self.now.inst.now)) }
+        ensures err { OnErr result (W.failed_within out.old out.new (conversion_text self.now.scope.now word.now width self.now.inst.now)) }
+    {
         let from = Typed {
             scope: self.scope,
             ty: *self.inst.ty(),
             operand: operand_of(self.inst, 0),
         };
-        let to = TypeWord(Ty::Int(self.width));
-        (Bytes(self.word), Bytes(b" "), from, Bytes(b" to "), to).put_into(out)
+        let to = TypeWord(Ty::Int(width));
+        (Bytes(word), Bytes(b" "), from, Bytes(b" to "), to).put_into(out)
     }
 }
 
@@ -176,7 +185,7 @@ impl Piece for Element<'_> {
         match self.elem {
             Elem::Int(width) => TypeWord(Ty::Int(width)).put_into(out),
             Elem::Ptr => TypeWord(Ty::Ptr).put_into(out),
-            Elem::Layout(layout) => (Bytes(b"%"), Bytes(self.scope.layout(layout))).put_into(out),
+            Elem::Layout(layout) => put_both(b"%", self.scope.layout(layout), out),
         }
     }
 }
@@ -191,7 +200,7 @@ impl Piece for Place {
     fn put_into<W: PieceSink>(&self, out: &mut W) -> Result<(), Failed> {
         match self.0 {
             None => Ok(()),
-            Some(place) => (Bytes(b", i32 "), Decimal(place as u64)).put_into(out),
+            Some(place) => put_then(b", i32 ", &Decimal(place as u64), out),
         }
     }
 }
@@ -224,14 +233,8 @@ impl Piece for Step<'_> {
             ty: Ty::Int(self.index_width),
             operand: operand_of(self.inst, 1),
         };
-        (
-            Bytes(b"getelementptr "),
-            element,
-            pointer,
-            index,
-            Place(self.place),
-        )
-            .put_into(out)
+        let rest = (element, pointer, index, Place(self.place));
+        put_then(b"getelementptr ", &rest, out)
     }
 }
 
@@ -250,7 +253,10 @@ impl Piece for Load<'_> {
             ty: Ty::Ptr,
             operand: operand_of(self.inst, 0),
         };
-        (Bytes(b"load "), TypeWord(*self.inst.ty()), pointer).put_into(out)
+        match *self.inst.ty() {
+            Ty::Int(64) => put_then(b"load i64", &pointer, out),
+            ty => put_then(b"load ", &(TypeWord(ty), pointer), out),
+        }
     }
 }
 
@@ -274,7 +280,7 @@ impl Piece for Store<'_> {
             ty: Ty::Ptr,
             operand: operand_of(self.inst, 1),
         };
-        (Bytes(b"store "), value, pointer).put_into(out)
+        put_then(b"store ", &(value, pointer), out)
     }
 }
 
@@ -427,7 +433,7 @@ impl Piece for Answer<'_> {
             ty: self.ty,
             operand: operand_of(self.inst, 0),
         };
-        (Bytes(b"ret "), answer).put_into(out)
+        put_then(b"ret ", &answer, out)
     }
 }
 
@@ -460,7 +466,7 @@ impl Piece for Front<'_> {
     fn put_into<W: PieceSink>(&self, out: &mut W) -> Result<(), Failed> {
         match self.0 {
             None => out.put(b"  "),
-            Some(name) => (Bytes(b"  %"), Bytes(name.bytes()), Bytes(b" = ")).put_into(out),
+            Some(name) => put_three(b"  %", name.bytes(), b" = ", out),
         }
     }
 }
@@ -468,60 +474,33 @@ impl Piece for Front<'_> {
 // A line after its result.
 #[derive(Drop)]
 struct Operation<'a> {
-    scope: &'a Scope<'a>,
     op: &'a Op,
-    inst: &'a Inst,
-}
-
-impl<'a> Operation<'a> {
-    fn arithmetic(&self, words: &'a [u8]) -> Arithmetic<'a>
-        ensures { result ≡ record { scope = self.now.scope; words = words.entry; inst = self.now.inst } }
-    {
-        Arithmetic {
-            scope: self.scope,
-            words,
-            inst: self.inst,
-        }
-    }
-
-    fn conversion(&self, word: &'a [u8], width: u32) -> Conversion<'a>
-        ensures { result ≡ record { scope = self.now.scope; word = word.entry; width = width; inst = self.now.inst } }
-    {
-        Conversion {
-            scope: self.scope,
-            word,
-            width,
-            inst: self.inst,
-        }
-    }
+    both: Both<'a>,
 }
 
 impl Piece for Operation<'_> {
-    ghost text = { λ piece. operator_text piece.scope.now piece.op.now piece.inst.now };
+    ghost text = { λ piece. operator_text piece.both.scope.now piece.op.now piece.both.inst.now };
 
     fn put_into<W: PieceSink>(&self, out: &mut W) -> Result<(), Failed> {
-        let (scope, inst) = (self.scope, self.inst);
+        let (scope, inst) = (self.both.scope, self.both.inst);
         match self.op {
-            Op::Add => self.arithmetic(b"add ").put_into(out),
-            Op::Sub => self.arithmetic(b"sub ").put_into(out),
-            Op::Mul => self.arithmetic(b"mul ").put_into(out),
-            Op::Udiv => self.arithmetic(b"udiv ").put_into(out),
-            Op::Sdiv => self.arithmetic(b"sdiv ").put_into(out),
-            Op::Urem => self.arithmetic(b"urem ").put_into(out),
-            Op::Srem => self.arithmetic(b"srem ").put_into(out),
-            Op::And => self.arithmetic(b"and ").put_into(out),
-            Op::Or => self.arithmetic(b"or ").put_into(out),
-            Op::Xor => self.arithmetic(b"xor ").put_into(out),
-            Op::Shl => self.arithmetic(b"shl ").put_into(out),
-            Op::Lshr => self.arithmetic(b"lshr ").put_into(out),
-            Op::Ashr => self.arithmetic(b"ashr ").put_into(out),
-            Op::Icmp(pred) => {
-                let compared = self.arithmetic(b" ");
-                (Bytes(b"icmp "), Bytes(predicate_bytes(*pred)), compared).put_into(out)
-            }
-            Op::Trunc(width) => self.conversion(b"trunc", *width).put_into(out),
-            Op::Zext(width) => self.conversion(b"zext", *width).put_into(out),
-            Op::Sext(width) => self.conversion(b"sext", *width).put_into(out),
+            Op::Add => put_then(b"add ", &self.both, out),
+            Op::Sub => put_then(b"sub ", &self.both, out),
+            Op::Mul => put_then(b"mul ", &self.both, out),
+            Op::Udiv => put_then(b"udiv ", &self.both, out),
+            Op::Sdiv => put_then(b"sdiv ", &self.both, out),
+            Op::Urem => put_then(b"urem ", &self.both, out),
+            Op::Srem => put_then(b"srem ", &self.both, out),
+            Op::And => put_then(b"and ", &self.both, out),
+            Op::Or => put_then(b"or ", &self.both, out),
+            Op::Xor => put_then(b"xor ", &self.both, out),
+            Op::Shl => put_then(b"shl ", &self.both, out),
+            Op::Lshr => put_then(b"lshr ", &self.both, out),
+            Op::Ashr => put_then(b"ashr ", &self.both, out),
+            Op::Icmp(pred) => self.both.put_comparison(*pred, out),
+            Op::Trunc(width) => self.both.put_conversion(b"trunc", *width, out),
+            Op::Zext(width) => self.both.put_conversion(b"zext", *width, out),
+            Op::Sext(width) => self.both.put_conversion(b"sext", *width, out),
             Op::Select => Select { scope, inst }.put_into(out),
             Op::Phi => Phi { scope, inst }.put_into(out),
             Op::Gep {
@@ -557,7 +536,7 @@ impl Piece for Operation<'_> {
             Op::GcRelocate => Relocate { scope, inst }.put_into(out),
             Op::Br => {
                 let block = label_of(inst, 0);
-                (Bytes(b"br label "), Label { scope, block }).put_into(out)
+                put_then(b"br label ", &Label { scope, block }, out)
             }
             Op::CondBr => Branch { scope, inst }.put_into(out),
             Op::Switch => Switch { scope, inst }.put_into(out),
@@ -579,9 +558,11 @@ impl Printer<Inst> for Lines<'_> {
 
     fn put_element<W: PieceSink>(&self, inst: &Inst, out: &mut W) -> Result<(), Failed> {
         let operation = Operation {
-            scope: self.0,
             op: inst.op(),
-            inst,
+            both: Both {
+                scope: self.0,
+                inst,
+            },
         };
         (Front(inst.result()), operation, Bytes(b"\n")).put_into(out)
     }

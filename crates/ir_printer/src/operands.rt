@@ -1,8 +1,9 @@
 //! Operands and labels as they stand in a line.
-ghost use Rattle.std.specs.Prelude.{◌≡◌, ◌++◌, ℕ, List, codes};
+ghost use Rattle.std.specs.Prelude.{◌≡◌, ◌++◌, ℕ, List, codes, OnOk, OnErr};
 ghost use Rattle.ir_printer.specs.Words.{type_text};
 ghost use Rattle.ir_printer.specs.Operands.{literal_text, value_text, typed_text, parameter_text, argument_text, label_text, operand_at, label_at};
 
+use crate::puts::{put_both, put_then};
 use crate::words::{Integer, TypeWord};
 use ir_ast::{Inst, Operand, Ty};
 use piece_writer::{Bytes, Decimal, Piece, PieceSink};
@@ -38,10 +39,10 @@ impl Piece for Value<'_> {
 
     fn put_into<W: PieceSink>(&self, out: &mut W) -> Result<(), Failed> {
         match self.operand {
-            Operand::Value(value) => (Bytes(b"%"), Bytes(self.scope.value(value))).put_into(out),
+            Operand::Value(value) => put_both(b"%", self.scope.value(value), out),
             Operand::Int(number) => Literal(self.ty, number).put_into(out),
             Operand::Null => out.put(b"null"),
-            Operand::Fun(func) => (Bytes(b"@"), Bytes(self.scope.function(func))).put_into(out),
+            Operand::Fun(func) => put_both(b"@", self.scope.function(func), out),
         }
     }
 }
@@ -54,27 +55,38 @@ pub(crate) struct Typed<'a> {
     pub operand: Operand,
 }
 
+// Most operands have their type and their `%` put at once. The others stand apart, so that room for
+// them isn't cleared for each operand.
+impl Typed<'_> {
+    #[inline(never)]
+    fn put_apart<W: PieceSink>(&self, out: &mut W) -> Result<(), Failed>
+        ensures ok { OnOk result (W.took out.old out.new (typed_text self.now.scope.now self.now.ty self.now.operand)) }
+        ensures err { OnErr result (W.failed_within out.old out.new (typed_text self.now.scope.now self.now.ty self.now.operand)) }
+    {
+        let value = Value {
+            scope: self.scope,
+            ty: self.ty,
+            operand: self.operand,
+        };
+        (TypeWord(self.ty), Bytes(b" "), value).put_into(out)
+    }
+}
+
 impl Piece for Typed<'_> {
     ghost text = { λ piece. typed_text piece.scope.now piece.ty piece.operand };
 
     fn put_into<W: PieceSink>(&self, out: &mut W) -> Result<(), Failed> {
         match self.operand {
-            Operand::Value(value) => {
-                let name = self.scope.value(value);
-                match self.ty {
-                    Ty::Ptr => (Bytes(b"ptr addrspace(1) %"), Bytes(name)).put_into(out),
-                    Ty::Int(64) => (Bytes(b"i64 %"), Bytes(name)).put_into(out),
-                    ty => (TypeWord(ty), Bytes(b" %"), Bytes(name)).put_into(out),
-                }
-            }
-            operand => {
-                let value = Value {
-                    scope: self.scope,
-                    ty: self.ty,
-                    operand,
-                };
-                (TypeWord(self.ty), Bytes(b" "), value).put_into(out)
-            }
+            Operand::Value(value) => match self.ty {
+                Ty::Ptr => put_both(b"ptr addrspace(1) %", self.scope.value(value), out),
+                Ty::Int(64) => put_both(b"i64 %", self.scope.value(value), out),
+                _ => self.put_apart(out),
+            },
+            Operand::Int(number) => match self.ty {
+                Ty::Int(64) => put_then(b"i64 ", &Integer(64, number), out),
+                _ => self.put_apart(out),
+            },
+            _ => self.put_apart(out),
         }
     }
 }
@@ -87,32 +99,37 @@ pub(crate) struct NextTyped<'a> {
     pub operand: Operand,
 }
 
+impl NextTyped<'_> {
+    #[inline(never)]
+    fn put_apart<W: PieceSink>(&self, out: &mut W) -> Result<(), Failed>
+        ensures ok { OnOk result (W.took out.old out.new (codes ", " ++ typed_text self.now.scope.now self.now.ty self.now.operand)) }
+        ensures err { OnErr result (W.failed_within out.old out.new (codes ", " ++ typed_text self.now.scope.now self.now.ty self.now.operand)) }
+    {
+        let typed = Typed {
+            scope: self.scope,
+            ty: self.ty,
+            operand: self.operand,
+        };
+        put_then(b", ", &typed, out)
+    }
+}
+
 impl Piece for NextTyped<'_> {
     ghost text = { λ piece. codes ", " ++ typed_text piece.scope.now piece.ty piece.operand };
 
     fn put_into<W: PieceSink>(&self, out: &mut W) -> Result<(), Failed> {
         match self.operand {
-            Operand::Value(value) => {
-                let name = self.scope.value(value);
-                match self.ty {
-                    Ty::Ptr => (Bytes(b", ptr addrspace(1) %"), Bytes(name)).put_into(out),
-                    Ty::Int(64) => (Bytes(b", i64 %"), Bytes(name)).put_into(out),
-                    ty => (Bytes(b", "), TypeWord(ty), Bytes(b" %"), Bytes(name)).put_into(out),
-                }
-            }
-            Operand::Int(number) => match self.ty {
-                Ty::Int(64) => (Bytes(b", i64 "), Integer(64, number)).put_into(out),
-                Ty::Int(32) => (Bytes(b", i32 "), Integer(32, number)).put_into(out),
-                ty => (Bytes(b", "), TypeWord(ty), Bytes(b" "), Literal(ty, number)).put_into(out),
+            Operand::Value(value) => match self.ty {
+                Ty::Ptr => put_both(b", ptr addrspace(1) %", self.scope.value(value), out),
+                Ty::Int(64) => put_both(b", i64 %", self.scope.value(value), out),
+                _ => self.put_apart(out),
             },
-            operand => {
-                let typed = Typed {
-                    scope: self.scope,
-                    ty: self.ty,
-                    operand,
-                };
-                (Bytes(b", "), typed).put_into(out)
-            }
+            Operand::Int(number) => match self.ty {
+                Ty::Int(64) => put_then(b", i64 ", &Integer(64, number), out),
+                Ty::Int(32) => put_then(b", i32 ", &Integer(32, number), out),
+                _ => self.put_apart(out),
+            },
+            _ => self.put_apart(out),
         }
     }
 }
@@ -130,16 +147,14 @@ impl Piece for NextValue<'_> {
 
     fn put_into<W: PieceSink>(&self, out: &mut W) -> Result<(), Failed> {
         match self.operand {
-            Operand::Value(value) => {
-                (Bytes(b", %"), Bytes(self.scope.value(value))).put_into(out)
-            }
+            Operand::Value(value) => put_both(b", %", self.scope.value(value), out),
             operand => {
                 let value = Value {
                     scope: self.scope,
                     ty: self.ty,
                     operand,
                 };
-                (Bytes(b", "), value).put_into(out)
+                put_then(b", ", &value, out)
             }
         }
     }
@@ -176,10 +191,32 @@ impl Piece for Argument<'_> {
         match self.ty {
             Ty::Void => {
                 let ty = Ty::Void;
-                let value = Value { scope, ty, operand };
-                (Bytes(b"ptr "), value).put_into(out)
+                put_then(b"ptr ", &Value { scope, ty, operand }, out)
             }
             ty => Typed { scope, ty, operand }.put_into(out),
+        }
+    }
+}
+
+/// An argument after a comma and its type.
+#[derive(Drop)]
+pub(crate) struct NextArgument<'a> {
+    pub scope: &'a Scope<'a>,
+    pub ty: Ty,
+    pub operand: Operand,
+}
+
+impl Piece for NextArgument<'_> {
+    ghost text = { λ piece. codes ", " ++ argument_text piece.scope.now piece.ty piece.operand };
+
+    fn put_into<W: PieceSink>(&self, out: &mut W) -> Result<(), Failed> {
+        let (scope, operand) = (self.scope, self.operand);
+        match self.ty {
+            Ty::Void => {
+                let ty = Ty::Void;
+                put_then(b", ptr ", &Value { scope, ty, operand }, out)
+            }
+            ty => NextTyped { scope, ty, operand }.put_into(out),
         }
     }
 }
@@ -195,7 +232,7 @@ impl Piece for Label<'_> {
     ghost text = { λ piece. label_text piece.scope.now piece.block };
 
     fn put_into<W: PieceSink>(&self, out: &mut W) -> Result<(), Failed> {
-        (Bytes(b"%"), Bytes(self.scope.block(self.block))).put_into(out)
+        put_both(b"%", self.scope.block(self.block), out)
     }
 }
 

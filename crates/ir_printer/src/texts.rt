@@ -11,6 +11,7 @@ ghost use Rattle.ir_printer.specs.Texts.{layout_text, argument_of, block_text, f
 
 use crate::declarations::{Declarations, stands_above};
 use crate::lines::Lines;
+use crate::runs::Run;
 use crate::words::{TypeWord, strategy};
 use ir_ast::{Arg, Block, Cell, Func, Layout, Module};
 use piece_writer::{Bytes, Each, Joined, Led, Piece, PieceSink, Printer, put_text};
@@ -75,13 +76,10 @@ impl Printer<Block> for Blocks<'_> {
     ghost element_text = { λ printer block. block_text printer.0.now block };
 
     fn put_element<W: PieceSink>(&self, block: &Block, out: &mut W) -> Result<(), Failed> {
-        let lines = Joined {
-            separator: b"",
-            row: Each {
-                printer: Lines(self.0),
-                elements: block.insts(),
-            },
-        };
+        let lines = Run(Each {
+            printer: Lines(self.0),
+            elements: block.insts(),
+        });
         (Bytes(block.name().bytes()), Bytes(b":\n"), lines).put_into(out)
     }
 }

@@ -1,5 +1,5 @@
 //! Types, predicates and integers.
-ghost use Rattle.std.specs.Prelude.{◌≡◌, ◌≤◌, ◌++◌, ℕ, List, OnOk, OnErr};
+ghost use Rattle.std.specs.Prelude.{◌≡◌, ◌≤◌, ◌<◌, ◌++◌, ℕ, List, OnOk, OnErr};
 ghost use Rattle.std.specs.Prelude.{decimal};
 ghost use Rattle.ir_printer.specs.Words.{type_text, predicate_word, integer_text, strategy_text};
 
@@ -31,12 +31,26 @@ impl Piece for TypeWord {
 #[derive(Clone, Copy)]
 pub(crate) struct Integer(pub u32, pub u64);
 
+impl Integer {
+    #[inline(never)]
+    fn put_apart<W: PieceSink>(&self, out: &mut W) -> Result<(), Failed>
+        ensures ok { OnOk result (W.took out.old out.new (integer_text self.now.0 self.now.1)) }
+        ensures err { OnErr result (W.failed_within out.old out.new (integer_text self.now.0 self.now.1)) }
+    {
+        let mut buffer = Buffer::new();
+        out.put(integer_bytes(self.0, self.1, &mut buffer))
+    }
+}
+
 impl Piece for Integer {
     ghost text = { λ piece. integer_text piece.0 piece.1 };
 
     fn put_into<W: PieceSink>(&self, out: &mut W) -> Result<(), Failed> {
-        let mut buffer = Buffer::new();
-        out.put(integer_bytes(self.0, self.1, &mut buffer))
+        let (width, number) = (self.0, self.1);
+        if width >= 8 && number < 10 {
+            return out.put(digit(number));
+        }
+        self.put_apart(out)
     }
 }
 
@@ -56,6 +70,25 @@ fn integer_bytes(width: u32, number: u64, buffer: &mut Buffer) -> &[u8]
         buffer.format(sign(width, number)).as_bytes()
     } else {
         buffer.format(number).as_bytes()
+    }
+}
+
+// Most integers of a text are digits.
+fn digit(number: u64) -> &'static [u8]
+    requires { number < 10 }
+    ensures { result.now ≡ decimal number }
+{
+    match number {
+        0 => b"0",
+        1 => b"1",
+        2 => b"2",
+        3 => b"3",
+        4 => b"4",
+        5 => b"5",
+        6 => b"6",
+        7 => b"7",
+        8 => b"8",
+        _ => b"9",
     }
 }
 
