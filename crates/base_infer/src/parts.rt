@@ -167,15 +167,16 @@ pub(crate) fn check_line(
         callee: Callee::Check,
         types: check_types(alloc)?,
     };
-    let mut operands = SmallVec::new(alloc);
-    operands.push(tables.base(address))?;
-    operands.push(tables.operand(address))?;
-    operands.push(Operand::Int(kind(inst.ty())))?;
+    let operands = [
+        tables.base(address),
+        tables.operand(address),
+        Operand::Int(kind(inst.ty())),
+    ];
     Ok(Inst::of(
         None,
         op,
         Ty::Void,
-        operands,
+        SmallVec::from_buf(alloc, operands),
         SmallVec::new(alloc),
         Vec::new(alloc),
     ))
@@ -184,10 +185,7 @@ pub(crate) fn check_line(
 fn check_types(alloc: Global) -> Result<Types, Memory>
     ensures { IfOk result (λ types. types ≡ Ty.Ptr ∷ Ty.Ptr ∷ Ty.Int 64 ∷ []) }
 {
-    let mut types = Vec::with_capacity(alloc, 3)?;
-    types.push(Ty::Ptr)?;
-    types.push(Ty::Ptr)?;
-    types.push(Ty::Int(64))?;
+    let types = Vec::from_slice(alloc, &[Ty::Ptr, Ty::Ptr, Ty::Int(64)])?;
     Ok(Types::of(types))
 }
 
