@@ -25,7 +25,7 @@ homes_none func = record {
   each = λ k home is. absurd (let never : None ≡ Some home = is in cc);
 }
 
-count_more : (func : Function) (number index : ℕ) (inst : Instruction) (result : Bool) → Stands func number index inst → is_some inst.result ≡ result
+pub count_more : (func : Function) (number index : ℕ) (inst : Instruction) (result : Bool) → Stands func number index inst → is_some inst.result ≡ result
     → length (filter named (take (text_place func number index + 1) (instructions_of func.blocks)))
     ≡ length (filter named (take (text_place func number index) (instructions_of func.blocks))) + cond result 1 0
 count_more func number index inst result stands is =

@@ -10,3 +10,4 @@ pub mod UseLemmas
 pub mod FirstLemmas
 pub mod FaultLemmas
 pub mod TinyLemmas
+pub mod StraightLemmas

@@ -5,3 +5,4 @@ pub mod FarUses
 pub mod Missed
 pub mod Spans
 pub mod Tiny
+pub mod Straight

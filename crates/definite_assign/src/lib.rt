@@ -9,6 +9,7 @@ mod homes;
 mod lists;
 mod search;
 mod spans;
+mod straight;
 mod uses;
 
 pub use faults::{definite, definite_in};

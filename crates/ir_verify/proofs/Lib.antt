@@ -8,3 +8,4 @@ pub mod PhiLemmas
 pub mod Union
 pub mod GroupLemmas
 mod Escapes
+mod SoundLines

@@ -1,13 +1,16 @@
 //! The first rule that a module breaks: the order of the passes.
 
-ghost use Rattle.std.specs.Prelude.{◌≡◌, ◌<◌, ◌^◌, [], length, IfOk, OnOk, map, slice_get, unwrap_or};
+ghost use Rattle.std.specs.Prelude.{◌≡◌, ◌<◌, ◌^◌, [], false, length, IsTrue, IfOk, OnOk, map, slice_get, unwrap_or};
+ghost use Rattle.ir_ast.specs.Faults.PointerOrder.{orders_pointers};
 ghost use Rattle.ir_ast.specs.Funcs.{instructions_of};
+ghost use Rattle.ir_ast.specs.Ops.{is_terminator};
+ghost use Rattle.ir_ast.specs.Scope.{scope_of};
 ghost use Rattle.ir_ast.specs.Values.{value_types};
 ghost use Rattle.ir_verify.specs.Bodies.{insts_of};
 ghost use Rattle.body_tables.specs.Bodies.{seen_insts, any_step};
 ghost use Rattle.ir_verify.specs.Founds.{FoundIn};
 ghost use Rattle.ir_verify.specs.FunctionFaults.{InstFault, LineFaultAt, EscapeAt, FormFault, FunctionFault, FunctionAt};
-ghost use Rattle.ir_resolve.specs.ModuleFaults.{HasModuleFault};
+ghost use Rattle.ir_resolve.specs.ModuleFaults.{HasModuleFault, IsTypedBesidesCalls};
 ghost use Rattle.ir_lines.specs.Notes.{Notes};
 ghost use Rattle.ir_resolve.specs.Resolved.{cases_at};
 
@@ -56,6 +59,42 @@ fn note_inst(
     Ok(())
 }
 
+// Whether an instruction that ends no block breaks nothing by itself, as most.
+fn is_sound(module: &Module, func: &Func, types: &[Ty], inst: &Inst) -> bool
+    requires { types.now ≡ value_types func.now.content }
+    ensures inside { IsTrue result → is_terminator inst.now.op ≡ false }
+    ensures unordered { IsTrue result → orders_pointers inst.now.op inst.now.ty ≡ false }
+    ensures typed { IsTrue result → IsTypedBesidesCalls (scope_of «module».now.content func.now.content) inst.now }
+{
+    !inst.op().is_terminator() && !orders_pointers(inst) && is_typed(module, func, types, inst)
+}
+
+// Notes what the instruction at a place of a function with this number breaks by itself. Its line is looked up only for
+// an instruction that may break something.
+fn note_line(
+    alloc: Global,
+    module: &Module,
+    cases: &[CaseLines],
+    number: usize,
+    func: &Func,
+    types: &[Ty],
+    place: usize,
+    inst: &Inst,
+    first: &mut First,
+) -> Result<(), Memory>
+    requires types { types.now ≡ value_types func.now.content }
+    requires few { place < 2 ^ 30 }
+    ensures { OnOk result (Notes first.old.found first.new.found
+        (LineFaultAt «module».now.content func.now (unwrap_or (slice_get cases.now number) []) place inst.now)) }
+{
+    if is_sound(module, func, types, inst) {
+        return Ok(());
+    }
+    let line = func.line_of(place as u32);
+    let rows = cases_at(cases, number, place);
+    note_inst(alloc, module, func, types, line, rows, inst, first)
+}
+
 // Notes what the instructions of a function with this number break by themselves.
 fn note_lines(
     alloc: Global,
@@ -74,9 +113,9 @@ fn note_lines(
         (FoundIn (LineFaultAt «module».now.content func.now (unwrap_or (slice_get cases.now number) [])) (insts_of func.now))) }
 {
     for (place, inst) in insts.iter().enumerate() {
-        let line = func.line_of(place as u32);
-        let rows = cases_at(cases, number, place);
-        note_inst(alloc, module, func, types, line, rows, inst, first)?;
+        note_line(
+            alloc, module, cases, number, func, types, place, inst, first,
+        )?;
     }
     Ok(())
 }

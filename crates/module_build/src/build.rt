@@ -96,6 +96,48 @@ fn push_inst(
     Ok(())
 }
 
+// Adds an instruction with this operand behind the others.
+fn push_single(
+    alloc: Global,
+    name: Option<&[u8]>,
+    op: Op,
+    ty: Ty,
+    operand: Operand,
+    insts: &mut Vec<Inst>,
+) -> Result<(), AllocError>
+    ensures { OnOk result (insts.new.items ≡ insts.old.items ++ instruction (option_copied name.entry) op ty (operand ∷ []) [] ∷ []) }
+{
+    let name = named(alloc, name)?;
+    let mut operands: Operands = SmallVec::new(alloc);
+    operands.push(operand)?;
+    let labels = SmallVec::new(alloc);
+    let none = Vec::new(alloc);
+    insts.push(Inst::of(name, op, ty, operands, labels, none))?;
+    Ok(())
+}
+
+// Adds an instruction with these two operands behind the others.
+fn push_pair(
+    alloc: Global,
+    name: Option<&[u8]>,
+    op: Op,
+    ty: Ty,
+    left: Operand,
+    right: Operand,
+    insts: &mut Vec<Inst>,
+) -> Result<(), AllocError>
+    ensures { OnOk result (insts.new.items ≡ insts.old.items ++ instruction (option_copied name.entry) op ty (left ∷ right ∷ []) [] ∷ []) }
+{
+    let name = named(alloc, name)?;
+    let mut operands: Operands = SmallVec::new(alloc);
+    operands.push(left)?;
+    operands.push(right)?;
+    let labels = SmallVec::new(alloc);
+    let none = Vec::new(alloc);
+    insts.push(Inst::of(name, op, ty, operands, labels, none))?;
+    Ok(())
+}
+
 // The types of what is passed.
 fn types_of(alloc: Global, passed: &[Passed]) -> Result<Types, AllocError>
     ensures { IfOk result (λ types. types ≡ map given_type (map seen_passed passed.now)) }
@@ -123,17 +165,15 @@ fn binary(
     ensures lost { lost.new ≡ after_uses local.now.values lost.old ((seen_value left.now, Int width.bits) ∷ (seen_value right.now, Int width.bits) ∷ []) }
 {
     let ty = TypeWord::Int(width);
-    let operands = [
-        operand(local, ty, left, lost),
-        operand(local, ty, right, lost),
-    ];
-    push_inst(
+    let left = operand(local, ty, left, lost);
+    let right = operand(local, ty, right, lost);
+    push_pair(
         alloc,
         Some(name),
         binary_of(op),
         type_of(ty),
-        &operands,
-        &[],
+        left,
+        right,
         insts,
     )
 }
@@ -153,12 +193,10 @@ fn compare(
         (operand_in local.now.values (seen_type ty) (seen_value left.now) ∷ operand_in local.now.values (seen_type ty) (seen_value right.now) ∷ []) []) ∷ []) }
     ensures lost { lost.new ≡ after_uses local.now.values lost.old ((seen_value left.now, seen_type ty) ∷ (seen_value right.now, seen_type ty) ∷ []) }
 {
-    let operands = [
-        operand(local, ty, left, lost),
-        operand(local, ty, right, lost),
-    ];
+    let left = operand(local, ty, left, lost);
+    let right = operand(local, ty, right, lost);
     let op = Op::Icmp(pred);
-    push_inst(alloc, Some(name), op, type_of(ty), &operands, &[], insts)
+    push_pair(alloc, Some(name), op, type_of(ty), left, right, insts)
 }
 
 fn convert(
@@ -177,14 +215,13 @@ fn convert(
     ensures lost { lost.new ≡ after_uses local.now.values lost.old ((seen_value value.now, Int width.bits) ∷ []) }
 {
     let ty = TypeWord::Int(width);
-    let operands = [operand(local, ty, value, lost)];
-    push_inst(
+    let value = operand(local, ty, value, lost);
+    push_single(
         alloc,
         Some(name),
         conversion_of(op, to.bits),
         type_of(ty),
-        &operands,
-        &[],
+        value,
         insts,
     )
 }
@@ -239,11 +276,9 @@ fn step(
         (operand_in local.now.values Managed (seen_value address.now) ∷ operand_in local.now.values (Int width.bits) (seen_value index.now) ∷ []) []) ∷ []) }
     ensures lost { lost.new ≡ after_uses local.now.values lost.old ((seen_value address.now, Managed) ∷ (seen_value index.now, Int width.bits) ∷ []) }
 {
-    let operands = [
-        operand(local, TypeWord::Managed, address, lost),
-        operand(local, TypeWord::Int(width), index, lost),
-    ];
-    push_inst(alloc, Some(name), op, Ty::Ptr, &operands, &[], insts)
+    let address = operand(local, TypeWord::Managed, address, lost);
+    let index = operand(local, TypeWord::Int(width), index, lost);
+    push_pair(alloc, Some(name), op, Ty::Ptr, address, index, insts)
 }
 
 fn scalar_step(
@@ -282,16 +317,8 @@ fn load(
         (operand_in local.now.values Managed (seen_value address.now) ∷ []) []) ∷ []) }
     ensures lost { lost.new ≡ after_uses local.now.values lost.old ((seen_value address.now, Managed) ∷ []) }
 {
-    let operands = [operand(local, TypeWord::Managed, address, lost)];
-    push_inst(
-        alloc,
-        Some(name),
-        Op::Load,
-        type_of(ty),
-        &operands,
-        &[],
-        insts,
-    )
+    let address = operand(local, TypeWord::Managed, address, lost);
+    push_single(alloc, Some(name), Op::Load, type_of(ty), address, insts)
 }
 
 fn store(
@@ -307,11 +334,9 @@ fn store(
         (operand_in local.now.values (seen_type ty) (seen_value value.now) ∷ operand_in local.now.values Managed (seen_value address.now) ∷ []) []) ∷ []) }
     ensures lost { lost.new ≡ after_uses local.now.values lost.old ((seen_value value.now, seen_type ty) ∷ (seen_value address.now, Managed) ∷ []) }
 {
-    let operands = [
-        operand(local, ty, value, lost),
-        operand(local, TypeWord::Managed, address, lost),
-    ];
-    push_inst(alloc, None, Op::Store, type_of(ty), &operands, &[], insts)
+    let value = operand(local, ty, value, lost);
+    let address = operand(local, TypeWord::Managed, address, lost);
+    push_pair(alloc, None, Op::Store, type_of(ty), value, address, insts)
 }
 
 fn phi(
@@ -395,8 +420,8 @@ fn ret(
     ensures insts { OnOk result (insts.new.items ≡ insts.old.items ++ (instruction None Op.Ret (type_of (seen_type ty)) (operand_in local.now.values (seen_type ty) (seen_value value.now) ∷ []) []) ∷ []) }
     ensures lost { lost.new ≡ after_uses local.now.values lost.old ((seen_value value.now, seen_type ty) ∷ []) }
 {
-    let operands = [operand(local, ty, value, lost)];
-    push_inst(alloc, None, Op::Ret, type_of(ty), &operands, &[], insts)
+    let value = operand(local, ty, value, lost);
+    push_single(alloc, None, Op::Ret, type_of(ty), value, insts)
 }
 
 fn gc_result(
@@ -412,14 +437,13 @@ fn gc_result(
         (operand_in local.now.values token_type (values.local token.entry.bytes.now) ∷ []) []) ∷ []) }
     ensures lost { lost.new ≡ after_uses local.now.values lost.old (token_use token.entry.bytes.now ∷ []) }
 {
-    let operands = [operand(local, TOKEN, &Value::Local(token), lost)];
-    push_inst(
+    let token = operand(local, TOKEN, &Value::Local(token), lost);
+    push_single(
         alloc,
         Some(name),
         Op::GcResult,
         type_of(answer),
-        &operands,
-        &[],
+        token,
         insts,
     )
 }
@@ -623,17 +647,15 @@ impl Scope<'_, '_, '_, '_> {
         ensures lost { lost.new ≡ after_spelling (is_below_zero place) (after_named self.now.top.now.layouts (layout.now ∷ [])
             (after_uses self.now.local.now.values lost.old ((seen_value address.now, Managed) ∷ (seen_value index.now, Int width.bits) ∷ []))) }
     {
-        let operands = [
-            operand(self.local, TypeWord::Managed, address, lost),
-            operand(self.local, TypeWord::Int(width), index, lost),
-        ];
+        let address = operand(self.local, TypeWord::Managed, address, lost);
+        let index = operand(self.local, TypeWord::Int(width), index, lost);
         let op = Op::Gep {
             elem: Elem::Layout(self.layout(layout, lost)),
             index_width: width.bits,
             place: place_if_any(place),
         };
         lost.misspelled = is_below_zero(place) || lost.misspelled;
-        push_inst(alloc, Some(name), op, Ty::Ptr, &operands, &[], insts)
+        push_pair(alloc, Some(name), op, Ty::Ptr, address, index, insts)
     }
 
     // The operands of what is passed.

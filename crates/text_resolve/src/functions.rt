@@ -40,6 +40,11 @@ fn room_for(lines: &[NumberedReading]) -> usize {
     lines.len().saturating_sub(cases)
 }
 
+// Room for one instruction more in the first block: a rewriting puts a poll there.
+fn spare_for(is_first: bool) -> usize {
+    if is_first { 1 } else { 0 }
+}
+
 // Whether it belongs to a `switch`.
 fn is_case(line: &NumberedReading) -> bool {
     matches!(line.reading, Reading::Case { .. } | Reading::SwitchEnd)
@@ -49,6 +54,7 @@ fn insts(
     scope: &Scope,
     alloc: Global,
     lines: &[NumberedReading],
+    spare: usize,
     numbers: &mut Vec<u32>,
     first: &mut First,
 ) -> Result<Vec<Inst>, AllocError>
@@ -57,7 +63,7 @@ fn insts(
         ≡ numbers.old.items ++ numbers_of (known_in scope.now) (seen_lines lines.now)) }
     ensures noted { OnOk result (Notes first.old.found first.new.found (LinesLost scope.now.form (tables_in scope.now) (seen_lines lines.now))) }
 {
-    let mut insts = Vec::with_capacity(alloc, room_for(lines))?;
+    let mut insts = Vec::with_capacity(alloc, room_for(lines).saturating_add(spare))?;
     for (i, line) in lines.iter().enumerate() {
         resolve_line(
             scope,
@@ -77,6 +83,7 @@ fn block(
     scope: &Scope,
     alloc: Global,
     block: &BlockLines,
+    spare: usize,
     numbers: &mut Vec<u32>,
     first: &mut First,
 ) -> Result<Block, AllocError>
@@ -89,7 +96,7 @@ fn block(
         ≡ numbers.old.items ++ numbers_of (known_in scope.now) (seen_lines block.now.lines.now)) }
     ensures noted { OnOk result (Notes first.old.found first.new.found (LinesLost scope.now.form (tables_in scope.now) (seen_lines block.now.lines.now))) }
 {
-    let insts = insts(scope, alloc, block.lines, numbers, first)?;
+    let insts = insts(scope, alloc, block.lines, spare, numbers, first)?;
     let name = owned(alloc, block.name)?;
     Ok(Block::of(name, insts))
 }
@@ -110,7 +117,8 @@ fn built_blocks(
 {
     let mut built = Vec::with_capacity(alloc, blocks.len())?;
     for one in blocks {
-        let made = block(scope, alloc, one, numbers, first)?;
+        let spare = spare_for(built.is_empty());
+        let made = block(scope, alloc, one, spare, numbers, first)?;
         built.push(made)?;
     }
     Ok(built)

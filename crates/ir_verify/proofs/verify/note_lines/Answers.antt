@@ -1,11 +1,10 @@
-use Rattle.std.proofs.Common.{◌≡◌, ◌∙◌, ℕ, List, [], length, sym, ap, subst, arith}
+use Rattle.std.proofs.Common.{◌≡◌, ◌∙◌, List, [], length, sym, ap, arith}
 use Rattle.std.specs.Prelude.{slice_get, Some, unwrap_or}
 use Rattle.std.specs.Borrow.{Bor}
 use Rattle.std.proofs.lemmas.List.{length-map}
 use Rattle.ir_ast.specs.Insts.{Instruction}
-use Rattle.ir_lines.specs.Notes.{Notes}
-use Rattle.ir_verify.specs.Bodies.{insts_of, cases_in}
-use Rattle.ir_verify.specs.FunctionFaults.{InstFault, LineFaultAt}
+use Rattle.ir_verify.specs.Bodies.{insts_of}
+use Rattle.ir_verify.specs.FunctionFaults.{LineFaultAt}
 use Rattle.ir_verify.proofs.Founds.{notes-step, notes-all}
 use Rattle.body_tables.proofs.Elements.{seen-at}
 use Rattle.ir_verify.proofs.verify.note_lines.Goals as goal
@@ -22,10 +21,8 @@ loop-place-preserved c =
     ∙ seen-at (λ (one : Bor Instruction). one.now) c.args.insts.now place c.index-insts-place.result c.loop-place-test.true c.index-insts-place.is in
     let f = c.args.first.now.found in
     let g = c.loop-place.first.found in
-    let h = c.note_inst.new.first.found in
-    notes-step (LineFaultAt content func rows) (insts_of func) place inst f g h at c.loop-place.invariant
-    (subst (λ (n : ℕ). Notes g h (InstFault content func.content n (cases_in rows place) inst)) c.line_of-line.ensures
-    (subst (λ (ns : List ℕ). Notes g h (InstFault content func.content c.line_of-line.result ns inst)) c.cases_at-rows.ensures c.in_ok-note_inst.ensures))
+    let h = c.note_line.new.first.found in
+    notes-step (LineFaultAt content func rows) (insts_of func) place inst f g h at c.loop-place.invariant c.in_ok-note_line.ensures
 
 pub returns : goal.returns
 returns c =
