@@ -16,7 +16,7 @@ use crate::limits::{counted_as, reading_fits};
 use crate::raw::NumberedReading;
 use crate::states::{Counted, Place, State};
 use crate::woven::Woven;
-use line_forms::{DroppedLine, Form, Reading, opened_form, whole_dropped, whole_kept};
+use line_forms::{DroppedLine, Form, Reading, opened_form, kept_front, whole_dropped};
 use line_parts::{Cursor, TypeWord};
 use sp_text::{Line, Token};
 use std::alloc::Global;
@@ -46,6 +46,7 @@ fn dropped(_which: DroppedLine, _answer: Option<TypeWord>, passed: bool) -> Resu
 
 impl State {
     // Keeps what a line says, if it passes no limit.
+    #[inline(always)]
     fn keep<'a>(
         &mut self,
         alloc: Global,
@@ -107,10 +108,16 @@ impl State {
                 let (answer, passed) = whole_dropped(&mut cursor, which)?;
                 dropped(which, answer, passed)
             }
-            _ => {
-                let (reading, passed) = whole_kept(&mut cursor, alloc, form, name)?;
-                self.keep(alloc, place, line.number, reading, passed, readings)
-            }
+            // A `?` would move the reading twice more.
+            _ => match kept_front(&mut cursor, alloc, form, name) {
+                Ok(reading) => match cursor.end() {
+                    Some(passed) => {
+                        self.keep(alloc, place, line.number, reading, passed, readings)
+                    }
+                    None => Err(LineFault::NoReading),
+                },
+                Err(stop) => Err(LineFault::from(stop)),
+            },
         }
     }
 
