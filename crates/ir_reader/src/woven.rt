@@ -109,7 +109,7 @@ impl<'a> Woven<'a> {
         }
     }
 
-    /// Adds a line behind the others. It is inlined, as room is made in its body before it is moved there, so that it is moved but once.
+    /// Adds a line behind the others. It is inlined, so that a line is moved straight to its body.
     #[inline(always)]
     pub(crate) fn push(
         &mut self,
