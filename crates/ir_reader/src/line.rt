@@ -16,7 +16,7 @@ use crate::limits::{counted_as, reading_fits};
 use crate::raw::NumberedReading;
 use crate::states::{Counted, Place, State};
 use crate::woven::Woven;
-use line_forms::{DroppedLine, Form, Reading, opened_form, whole_dropped, whole_kept};
+use line_forms::{DroppedLine, Form, Reading, kept_front, opened_form, whole_dropped};
 use line_parts::{Cursor, TypeWord};
 use sp_text::{Line, Token};
 use std::alloc::Global;
@@ -44,8 +44,19 @@ fn dropped(_which: DroppedLine, _answer: Option<TypeWord>, passed: bool) -> Resu
     }
 }
 
+// Lets go what a refused line says. It stands apart, since a reading that may be dropped where it was read is taken to
+// pieces there.
+#[cold]
+#[inline(never)]
+fn refused(_reading: Reading, fault: LineFault) -> LineFault
+    ensures { result ≡ fault }
+{
+    fault
+}
+
 impl State {
     // Keeps what a line says, if it passes no limit.
+    #[inline(always)]
     fn keep<'a>(
         &mut self,
         alloc: Global,
@@ -63,7 +74,7 @@ impl State {
     {
         let counts = self.counts.with(counted_as(&reading).in_form(self.form));
         if passed || !(reading_fits(&reading) && counts.fit()) {
-            return Err(LineFault::OverLimit);
+            return Err(refused(reading, LineFault::OverLimit));
         }
         if readings
             .push(alloc, NumberedReading { line, reading })
@@ -107,10 +118,16 @@ impl State {
                 let (answer, passed) = whole_dropped(&mut cursor, which)?;
                 dropped(which, answer, passed)
             }
-            _ => {
-                let (reading, passed) = whole_kept(&mut cursor, alloc, form, name)?;
-                self.keep(alloc, place, line.number, reading, passed, readings)
-            }
+            // A `?` would move the reading twice more.
+            _ => match kept_front(&mut cursor, alloc, form, name) {
+                Ok(reading) => match cursor.end() {
+                    Some(passed) => {
+                        self.keep(alloc, place, line.number, reading, passed, readings)
+                    }
+                    None => Err(refused(reading, LineFault::NoReading)),
+                },
+                Err(stop) => Err(LineFault::from(stop)),
+            },
         }
     }
 

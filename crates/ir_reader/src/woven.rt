@@ -46,6 +46,7 @@ fn stands_outside(bodies: &[Vec<NumberedReading>], reading: &Reading) -> bool
 }
 
 // Adds a line outside bodies, behind which no body stands so far; or nothing.
+#[inline(never)]
 fn push_outer<'a>(
     alloc: Global,
     line: NumberedReading<'a>,
@@ -64,6 +65,7 @@ fn push_outer<'a>(
 }
 
 // Adds a line to a body.
+#[inline(always)]
 fn push_inner<'a>(
     place: usize,
     line: NumberedReading<'a>,
@@ -74,11 +76,14 @@ fn push_inner<'a>(
         (slice_index_or (map (λ body. body.items) bodies.old.items) place [] ++ line.entry ∷ [])) }
     ensures same { OnErr result (map (λ body. body.items) bodies.new.items ≡ map (λ body. body.items) bodies.old.items) }
 {
-    bodies[place].push(line)?;
+    let body = &mut bodies[place];
+    body.reserve(1)?;
+    body.push_reserved(line);
     Ok(())
 }
 
 // Adds a line to the last body.
+#[inline(always)]
 fn push_last<'a>(
     line: NumberedReading<'a>,
     bodies: &mut Vec<Vec<NumberedReading<'a>>>,
@@ -104,7 +109,8 @@ impl<'a> Woven<'a> {
         }
     }
 
-    /// Adds a line behind the others.
+    /// Adds a line behind the others. It is inlined, so that a line is moved straight to its body.
+    #[inline(always)]
     pub(crate) fn push(
         &mut self,
         alloc: Global,

@@ -18,6 +18,6 @@ mod results;
 pub use bundles::LiveEntries;
 pub use forms::{DroppedLine, Form};
 pub use laws::{one_form, one_reading, own_form};
-pub use lines::{whole_dropped, whole_kept};
+pub use lines::{kept_front, whole_dropped};
 pub use opening::opened_form;
 pub use readings::{FunctionType, Reading, StatepointCall};

@@ -1,6 +1,6 @@
 //! Whole lines of a form.
 
-ghost use Rattle.std.specs.Prelude.{◌≡◌, true, false, is_some, MatchResult};
+ghost use Rattle.std.specs.Prelude.{◌≡◌, true, false, is_some};
 ghost use Rattle.std.specs.Option.{option_map};
 ghost use Rattle.sp_text.specs.Names.{seen_name};
 ghost use Rattle.line_parts.specs.Gives.{Gives};
@@ -22,6 +22,7 @@ use sp_text::Name;
 use std::alloc::Global;
 
 // What a line of this form says.
+#[inline(always)]
 fn kept<'a>(cursor: &mut Cursor<'_, 'a>, alloc: Global, form: Form) -> Result<Reading<'a>, Stop>
     requires kept { is_dropped_form form ≡ false }
     requires whole { is_operator_form form ≡ false }
@@ -51,6 +52,7 @@ fn kept<'a>(cursor: &mut Cursor<'_, 'a>, alloc: Global, form: Form) -> Result<Re
 }
 
 // What a line of this form says from behind its operator on.
+#[inline(always)]
 fn operated<'a>(
     cursor: &mut Cursor<'_, 'a>,
     alloc: Global,
@@ -74,36 +76,22 @@ fn operated<'a>(
     }
 }
 
-/// What a whole line of this form says, from where it was opened on ([`opened_form`](crate::opened_form)), and whether it passes
-/// a limit: `name` is its result, where the cursor stands behind its operator.
-#[inline(never)]
-pub fn whole_kept<'a>(
+/// What a line of this form says, from where it was opened on ([`opened_form`](crate::opened_form)): `name` is its result, where
+/// the cursor stands behind its operator. Behind the form it may go on.
+#[inline(always)]
+pub fn kept_front<'a>(
     cursor: &mut Cursor<'_, 'a>,
     alloc: Global,
     form: Form,
     name: Option<Name<'a>>,
-) -> Result<(Reading<'a>, bool), Stop>
+) -> Result<Reading<'a>, Stop>
     requires kept { is_dropped_form form ≡ false }
     requires opened { is_some (option_map seen_name name) ≡ is_operator_form form }
-    ensures { Reads seen result (ended (opened_at form (option_map seen_name name.entry) cursor.old)) }
+    ensures { Gives seen result cursor.new (opened_at form (option_map seen_name name.entry) cursor.old) }
 {
-    let read = match name {
+    match name {
         Some(name) => operated(cursor, alloc, form, name),
         None => kept(cursor, alloc, form),
-    };
-    match cursor.end() {
-        Some(passed) => Ok((read?, passed)),
-        None => Err(unread(read)),
-    }
-}
-
-// Why a line isn't read behind which something stands.
-fn unread(read: Result<Reading, Stop>) -> Stop
-    ensures { MatchResult read.entry (λ _. result ≡ Stop.NoReading) (λ stop. result ≡ stop) }
-{
-    match read {
-        Ok(_) => Stop::NoReading,
-        Err(stop) => stop,
     }
 }
 

@@ -11,20 +11,20 @@ returns-clause-bodies c =
     let bodies = c.args.bodies.now.items in
     let place = c.args.place in
     let line = c.args.line in
-    let is : c.index_mut.result.now ≡ get_or bodies place c.index_mut.result.now = c.index_mut.ensures.value in
-    map-set items bodies place c.push.new.self
+    let is : c.index_mut-body.result.now ≡ get_or bodies place c.index_mut-body.result.now = c.index_mut-body.ensures.value in
+    map-set items bodies place c.push_reserved.new.self
     ∙ ap (λ r. set (map items bodies) place r)
-    (c.in_ok-push.ensures.items ∙ ap (λ (r : Vec NumberedReading Global). r.items ++ line ∷ []) is
-    ∙ ap (λ (r : List NumberedReading). r ++ line ∷ []) (sym (get_or-map items bodies place c.index_mut.result.now [] c.requires)))
+    (c.push_reserved.ensures.items
+    ∙ ap (λ (r : List NumberedReading). r ++ line ∷ []) (c.reserve.ensures.items ∙ ap items is ∙ sym (get_or-map items bodies place c.index_mut-body.result.now [] c.requires)))
 
-pub returns-in_err-push-clause-same : goal.returns-in_err-push-clause-same
-returns-in_err-push-clause-same c =
+pub returns-in_err-reserve-clause-same : goal.returns-in_err-reserve-clause-same
+returns-in_err-reserve-clause-same c =
     let items : Vec NumberedReading Global → List NumberedReading = λ body. body.items in
     let bodies = c.args.bodies.now.items in
     let place = c.args.place in
-    let is : c.index_mut.result.now ≡ get_or bodies place c.index_mut.result.now = c.index_mut.ensures.value in
+    let is : c.index_mut-body.result.now ≡ get_or bodies place c.index_mut-body.result.now = c.index_mut-body.ensures.value in
     on-err c.from_residual.result
-    (map-set items bodies place c.push.new.self
+    (map-set items bodies place c.reserve.new.self
     ∙ ap (λ (r : List NumberedReading). set (map items bodies) place r)
-    (c.in_err-push.ensures.items ∙ ap items is ∙ sym (get_or-map items bodies place c.index_mut.result.now [] c.requires))
+    (c.reserve.ensures.items ∙ ap items is ∙ sym (get_or-map items bodies place c.index_mut-body.result.now [] c.requires))
     ∙ set-get_or (map items bodies) place [])
