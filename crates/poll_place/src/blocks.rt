@@ -82,10 +82,9 @@ fn with_poll_at_front(
     if number > 0 {
         return Ok(insts);
     }
-    let mut all = Vec::with_capacity(alloc, insts.len().saturating_add(1))?;
-    all.push(poll(alloc))?;
-    all.append(&mut insts)?;
-    Ok(all)
+    insts.reserve_exact(1)?;
+    insts.insert(0, poll(alloc))?;
+    Ok(insts)
 }
 
 // `call void @gc.safepoint_poll()`
