@@ -1,6 +1,7 @@
 """Runs of programs in turns, so that what else the machine does weighs on all of them alike."""
 import os
 import re
+import statistics
 import subprocess
 import sys
 import time
@@ -15,6 +16,7 @@ class Run:
     room: float      # MB at the peak
     writes: int
     reads: int
+    beside: float = 1.0  # of seconds on the clock, the middle of the ratios to the last program's run of the same turn
 
 
 def write(path, make):
@@ -53,14 +55,17 @@ def once(words, to, folder):
 
 
 def best(all_words, to, folder, turns):
-    """Of each of these programs the least of each figure, over so many turns; fewer where one takes more than ten seconds."""
+    """Of each of these programs the least of each figure, over so many turns; fewer where one takes more than ten seconds. A machine that is now
+    fast, now slow would mix the least of one with that of another; so ratios are taken turn by turn."""
     found = [[] for _ in all_words]
     for _ in range(turns):
         for runs, words in zip(found, all_words):
             runs.append(once(words, to, folder))
         if max(runs[-1].clock for runs in found) > 10:
             break
-    return [Run(*(min(getattr(run, field) for run in runs) for field in Run.__dataclass_fields__)) for runs in found]
+    beside = [statistics.median(run.clock / last.clock for run, last in zip(runs, found[-1])) for runs in found]
+    figures = [field for field in Run.__dataclass_fields__ if field != 'beside']
+    return [Run(*(min(getattr(run, field) for run in runs) for field in figures), ratio) for runs, ratio in zip(found, beside)]
 
 
 def instructions(words):
