@@ -105,7 +105,7 @@ used_below limit value inst known used =
     let from = in_filtered value_in (operands_of inst) value used in
     below_of limit value from.source
     (All-contains (λ (operand : Operand). is_below limit operand ≡ true) inst.operands from.source known.below
-    (subst (λ (os : List Operand). Contains os from.source) (operands_known inst known.kept) from.among)) from.gives
+    (subst (λ (os : List Operand). Contains os from.source) (operands_known inst known.unbundled) from.among)) from.gives
 
 abbrev Lines : Function → List Instruction
 Lines func = instructions_of func.blocks

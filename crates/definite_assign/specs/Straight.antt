@@ -10,10 +10,10 @@ abbrev pub is_below : ℕ → Operand → Bool
 is_below limit (Value value) = nat_lt value.0 limit
 is_below limit _ = true
 
--- it is no phi, and uses nothing but the first values
+-- it is no phi, has no bundle, and uses nothing but the first values
 pub record IsKnown (limit : ℕ) (inst : Instruction) : Type 0 where
   pub plain : is_phi inst.op ≡ false
-  pub kept : length inst.bundle ≡ 0
+  pub unbundled : length inst.bundle ≡ 0
   pub below : All (λ operand. is_below limit operand ≡ true) inst.operands
 
 -- how many values there are before a place
