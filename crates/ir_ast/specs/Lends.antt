@@ -2,7 +2,6 @@
 use Rattle.std.specs.Prelude.{List, length}
 use Rattle.std.specs.List.{refill}
 use Rattle.std.specs.Borrow.{Lends, MutBor, Fml, Array}
-use Rattle.ir_ast.specs.declared.types.Ty.{Ty}
 use Rattle.ir_ast.specs.declared.ops.Operand.{Operand}
 use Rattle.ir_ast.specs.Insts.{Instruction}
 use Rattle.ir_ast.specs.contracts.insts.Inst.{the_row}

@@ -2,6 +2,8 @@ pub mod Cells
 pub mod Layouts
 pub mod Sizes
 pub mod Ops
+pub mod TypeLists
+pub mod Rests
 pub mod Insts
 pub mod Lends
 pub mod Blocks

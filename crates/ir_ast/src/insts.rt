@@ -4,7 +4,8 @@ ghost use Rattle.ir_ast.specs.Lends.{lends_operands};
 
 use crate::clones::TryClone;
 use crate::names::Name;
-use crate::ops::{Labels, Op, Operand, Operands};
+use crate::ops::{Op, Operand, Operands};
+use crate::rest::Rest;
 use crate::types::Ty;
 use smallvec::SmallVec;
 use sp_ids::{BlockId, Memory};
@@ -24,8 +25,7 @@ pub struct Inst {
     op: Op,
     ty: Ty,
     operands: Operands,
-    labels: Labels,
-    bundle: Vec<(Ty, Operand)>,
+    rest: Rest,
 }
 
 impl Model for Inst {
@@ -38,28 +38,21 @@ impl Model for Inst {
       op = inst.op;
       ty = inst.ty;
       operands = inst.operands.items;
-      labels = inst.labels.items;
-      bundle = inst.bundle.items;
+      labels = inst.rest.labels;
+      bundle = inst.rest.bundle;
     } };
 }
 
 impl Inst {
-    /// The instruction with these parts; `bundle` has the operands of its "deopt" bundle.
-    pub fn of(
-        named: Option<Name>,
-        op: Op,
-        ty: Ty,
-        operands: Operands,
-        labels: Labels,
-        bundle: Vec<(Ty, Operand)>,
-    ) -> Inst
+    /// The instruction with these parts; `rest` has its labels and its "deopt" bundle.
+    pub fn of(named: Option<Name>, op: Op, ty: Ty, operands: Operands, rest: Rest) -> Inst
         ensures { result ≡ record {
           result = named;
           op = op;
           ty = ty;
           operands = operands.items;
-          labels = labels.items;
-          bundle = bundle.items;
+          labels = rest.labels;
+          bundle = rest.bundle;
         } }
     {
         Inst {
@@ -67,28 +60,20 @@ impl Inst {
             op,
             ty,
             operands,
-            labels,
-            bundle,
+            rest,
         }
     }
 
     /// Gives its parts back.
-    pub fn into_parts(self) -> (Option<Name>, Op, Ty, Operands, Labels, Vec<(Ty, Operand)>)
+    pub fn into_parts(self) -> (Option<Name>, Op, Ty, Operands, Rest)
         ensures named { result.0 ≡ self.result }
         ensures op { result.1 ≡ self.op }
         ensures ty { result.2 ≡ self.ty }
         ensures operands { result.3.items ≡ self.operands }
-        ensures labels { result.4.items ≡ self.labels }
-        ensures bundle { result.5.items ≡ self.bundle }
+        ensures labels { result.4.labels ≡ self.labels }
+        ensures bundle { result.4.bundle ≡ self.bundle }
     {
-        (
-            self.result,
-            self.op,
-            self.ty,
-            self.operands,
-            self.labels,
-            self.bundle,
-        )
+        (self.result, self.op, self.ty, self.operands, self.rest)
     }
 
     /// The name of its result, if it has one.
@@ -131,14 +116,14 @@ impl Inst {
     pub fn labels(&self) -> &[BlockId]
         ensures { result.now ≡ self.now.labels }
     {
-        self.labels.as_slice()
+        self.rest.labels()
     }
 
     /// The operands of its "deopt" bundle, with their types.
     pub fn bundle(&self) -> &[(Ty, Operand)]
         ensures { result.now ≡ self.now.bundle }
     {
-        self.bundle.as_slice()
+        self.rest.bundle()
     }
 }
 
@@ -149,8 +134,7 @@ impl TryClone for Inst {
             op: self.op.try_clone_in(alloc)?,
             ty: self.ty,
             operands: SmallVec::from_slice(alloc, self.operands.as_slice())?,
-            labels: SmallVec::from_slice(alloc, self.labels.as_slice())?,
-            bundle: Vec::from_slice(alloc, self.bundle.as_slice())?,
+            rest: self.rest.try_clone_in(alloc)?,
         })
     }
 }

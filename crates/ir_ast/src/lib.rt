@@ -10,6 +10,7 @@ mod layouts;
 mod modules;
 mod names;
 mod ops;
+mod rest;
 mod tables;
 mod types;
 
@@ -21,5 +22,6 @@ pub use layouts::Layout;
 pub use modules::{Form, Module};
 pub use names::{Name, NameBytes};
 pub use ops::{Callee, Elem, Labels, Op, Operand, Operands, Pred};
+pub use rest::Rest;
 pub use tables::{BaseTable, LiveTable};
 pub use types::{Ty, Types};

@@ -1,4 +1,4 @@
-ghost use Rattle.std.specs.Prelude.{◌≡◌};
+ghost use Rattle.std.specs.Prelude.{◌≡◌, [], IfOk};
 
 use crate::clones::TryClone;
 use sp_ids::Memory;
@@ -17,48 +17,84 @@ pub enum Ty {
     Token,
 }
 
-/// The types of the arguments of a call. Contracts see a list of `Ty`.
+/// The types of the arguments of a call. Contracts see a list of `Ty`. No memory is taken for one or two.
 #[derive(Debug, Drop)]
 pub struct Types {
-    list: Vec<Ty>,
+    listed: Listed,
+}
+
+#[derive(Debug, Drop)]
+pub(crate) enum Listed {
+    Nothing,
+    One([Ty; 1]),
+    Two([Ty; 2]),
+    More(Box<Vec<Ty>>),
 }
 
 impl Model for Types {
     ghost use Rattle.std.specs.Prelude.{List};
     ghost use Rattle.ir_ast.specs.declared.types.Ty.{Ty};
+    ghost use Rattle.ir_ast.specs.TypeLists.{types_listed};
 
     ghost Value = { List Ty };
 
-    ghost view = { λ types. types.list.items };
+    ghost view = { λ types. types_listed types.listed };
+}
+
+// Types in memory of their own.
+#[inline(never)]
+fn more(alloc: Global, list: &[Ty]) -> Result<Types, Memory>
+    ensures { IfOk result (λ types. types ≡ list.now) }
+{
+    let items = Vec::from_slice(alloc, list)?;
+    let listed = Box::new(alloc, items)?;
+    Ok(Types {
+        listed: Listed::More(listed),
+    })
 }
 
 impl Types {
-    /// These types, in this order.
-    pub fn of(list: Vec<Ty>) -> Types
-        ensures { result ≡ list.items }
+    /// No type.
+    #[inline(always)]
+    pub fn nothing() -> Types
+        ensures { result ≡ [] }
     {
-        Types { list }
+        Types {
+            listed: Listed::Nothing,
+        }
     }
 
-    /// Gives the list back.
-    pub fn into_parts(self) -> Vec<Ty>
-        ensures { result.items ≡ self }
+    /// These types, in this order.
+    pub fn of(alloc: Global, list: &[Ty]) -> Result<Types, Memory>
+        ensures { IfOk result (λ types. types ≡ list.now) }
     {
-        self.list
+        match list {
+            [] => Ok(Types::nothing()),
+            [one] => Ok(Types {
+                listed: Listed::One([*one]),
+            }),
+            [first, second] => Ok(Types {
+                listed: Listed::Two([*first, *second]),
+            }),
+            _ => more(alloc, list),
+        }
     }
 
     /// The types, in their order.
     pub fn list(&self) -> &[Ty]
         ensures { result.now ≡ self.now }
     {
-        self.list.as_slice()
+        match &self.listed {
+            Listed::Nothing => &[],
+            Listed::One(types) => types,
+            Listed::Two(types) => types,
+            Listed::More(types) => types.as_slice(),
+        }
     }
 }
 
 impl TryClone for Types {
     fn try_clone_in(&self, alloc: Global) -> Result<Types, Memory> {
-        Ok(Types {
-            list: Vec::from_slice(alloc, self.list.as_slice())?,
-        })
+        Types::of(alloc, self.list())
     }
 }
