@@ -17,7 +17,8 @@ pub enum Ty {
     Token,
 }
 
-/// The types of the arguments of a call. Contracts see a list of `Ty`. No memory is taken for one or two.
+/// The types of the arguments of a call. Contracts see a list of `Ty`. No memory is taken for one or two, nor
+/// for those of `gc_check`.
 #[derive(Debug, Drop)]
 pub struct Types {
     listed: Listed,
@@ -28,6 +29,8 @@ pub(crate) enum Listed {
     Nothing,
     One([Ty; 1]),
     Two([Ty; 2]),
+    // those of `gc_check`, which stands before each access
+    Check,
     More(Box<Vec<Ty>>),
 }
 
@@ -76,6 +79,9 @@ impl Types {
             [first, second] => Ok(Types {
                 listed: Listed::Two([*first, *second]),
             }),
+            [Ty::Ptr, Ty::Ptr, Ty::Int(64)] => Ok(Types {
+                listed: Listed::Check,
+            }),
             _ => more(alloc, list),
         }
     }
@@ -88,6 +94,7 @@ impl Types {
             Listed::Nothing => &[],
             Listed::One(types) => types,
             Listed::Two(types) => types,
+            Listed::Check => &[Ty::Ptr, Ty::Ptr, Ty::Int(64)],
             Listed::More(types) => types.as_slice(),
         }
     }

@@ -2,7 +2,7 @@ ghost use Rattle.std.specs.Prelude.{◌≡◌, ◌^◌, ◌<◌, false, length, 
 ghost use Rattle.ir_ast.specs.Blocks.{EndsAtTerminator};
 ghost use Rattle.ir_cfg.specs.Unreached.{kept_of, new_numbers, operand_kept, label_kept, has_mark, operands_kept, labels_kept, inst_kept, block_kept};
 
-use ir_ast::{Block, Inst, Labels, Op, Operand, Operands, Ty};
+use ir_ast::{Block, Inst, Labels, Op, Operand, Operands, Rest, Ty};
 use smallvec::SmallVec;
 use sp_ids::{BlockId, Memory, ValueId};
 use std::alloc::Global;
@@ -196,8 +196,9 @@ fn inst(alloc: Global, renumber: &Renumber, inst: Inst) -> Result<Inst, Memory>
     let new_operands = operands(alloc, renumber, inst.op(), inst.labels(), inst.operands())?;
     let new_labels = labels(alloc, renumber, inst.op(), inst.labels())?;
     let new_bundle = bundle(alloc, renumber, inst.bundle())?;
-    let (named, op, ty, _operands, _labels, _bundle) = inst.into_parts();
-    Ok(Inst::of(named, op, ty, new_operands, new_labels, new_bundle))
+    let new_rest = Rest::of(alloc, new_labels.as_slice(), new_bundle)?;
+    let (named, op, ty, _operands, _rest) = inst.into_parts();
+    Ok(Inst::of(named, op, ty, new_operands, new_rest))
 }
 
 /// The block with its new numbers.
