@@ -1,4 +1,4 @@
-ghost use Rattle.std.specs.Prelude.{◌≡◌, ◌+◌, ◌<◌, ◌^◌, length, map, IfOk};
+ghost use Rattle.std.specs.Prelude.{◌≡◌, ◌+◌, ◌<◌, ◌^◌, length, map, IfOk, OnOk};
 ghost use Rattle.std.specs.List.{All, list_all};
 ghost use Rattle.ir_ast.specs.Blocks.{EndsAtTerminator};
 ghost use Rattle.ir_ast.specs.Funcs.{instructions_of};
@@ -96,7 +96,8 @@ fn all_lines(
 {
     if all_alone(tables, insts.as_slice()) {
         let behind = value_after(start, insts.as_slice());
-        return Ok((renumbered(alloc, tables, insts), behind));
+        let lines = renumbered(alloc, tables, insts)?;
+        return Ok((lines, behind));
     }
     with_more_lines(alloc, tables, start, spare, insts)
 }
@@ -113,19 +114,20 @@ fn all_alone(tables: &Tables, insts: &[Inst]) -> bool
     true
 }
 
-fn renumbered(alloc: Global, tables: &Tables, mut insts: Vec<Inst>) -> Vec<Inst>
-    ensures { result.items ≡ map (kept_line (tabled tables.now)) insts.items }
+fn renumbered(alloc: Global, tables: &Tables, mut insts: Vec<Inst>) -> Result<Vec<Inst>, Memory>
+    ensures { IfOk result (λ lines. lines.items ≡ map (kept_line (tabled tables.now)) insts.items) }
 {
-    renumber_all(alloc, tables, insts.as_mut_slice());
-    insts
+    renumber_all(alloc, tables, insts.as_mut_slice())?;
+    Ok(insts)
 }
 
-fn renumber_all(alloc: Global, tables: &Tables, insts: &mut [Inst])
-    ensures { insts.new ≡ map (kept_line (tabled tables.now)) insts.old }
+fn renumber_all(alloc: Global, tables: &Tables, insts: &mut [Inst]) -> Result<(), Memory>
+    ensures { OnOk result (insts.new ≡ map (kept_line (tabled tables.now)) insts.old) }
 {
     for inst in insts.iter_mut() {
-        renumber_inst(alloc, tables, inst);
+        renumber_inst(alloc, tables, inst)?;
     }
+    Ok(())
 }
 
 fn with_more_lines(

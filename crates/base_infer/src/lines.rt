@@ -27,7 +27,7 @@ pub(crate) fn push_lines(
         Some(pred) => push_compared(alloc, tables, next, pred, inst, lines),
         None => {
             push_before(alloc, tables, next, &inst, lines)?;
-            renumber_inst(alloc, tables, &mut inst);
+            renumber_inst(alloc, tables, &mut inst)?;
             lines.push(inst)?;
             Ok(())
         }
@@ -167,7 +167,7 @@ fn push_kept(
 ) -> Result<(), Memory>
     ensures { IfOk result (λ _. lines.new.items ≡ lines.old.items ++ kept_line (tabled tables.now) inst ∷ []) }
 {
-    renumber_inst(alloc, tables, &mut inst);
+    renumber_inst(alloc, tables, &mut inst)?;
     lines.push(inst)?;
     Ok(())
 }
@@ -226,7 +226,7 @@ fn push_equal(
 {
     let first = operand_at(inst.operands(), 0);
     let second = operand_at(inst.operands(), 1);
-    let (named, _op, _ty, _operands, _labels, _bundle) = inst.into_parts();
+    let (named, _op, _ty, _operands, _rest) = inst.into_parts();
     lines.push(same_line(alloc, tables, named, first, second)?)?;
     Ok(())
 }
@@ -242,7 +242,7 @@ fn push_unequal(
 {
     let first = operand_at(inst.operands(), 0);
     let second = operand_at(inst.operands(), 1);
-    let (named, _op, _ty, _operands, _labels, _bundle) = inst.into_parts();
+    let (named, _op, _ty, _operands, _rest) = inst.into_parts();
     let own = name(alloc, b"sp.s", tables.same_rank(next))?;
     lines.push(same_line(alloc, tables, Some(own), first, second)?)?;
     lines.push(negation(alloc, tables, next, named)?)?;

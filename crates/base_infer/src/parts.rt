@@ -1,6 +1,6 @@
 //! The lines that are put in, and the old ones over new numbers.
 
-ghost use Rattle.std.specs.Prelude.{◌≡◌, [], ◌∷◌, if◌then◌else◌, map, slice_index_or, IfOk};
+ghost use Rattle.std.specs.Prelude.{◌≡◌, [], ◌∷◌, if◌then◌else◌, map, slice_index_or, IfOk, OnOk};
 ghost use Rattle.ir_ast.specs.declared.types.Ty.{Ty};
 ghost use Rattle.ir_ast.specs.declared.ops.Op.{Op};
 ghost use Rattle.ir_ast.specs.declared.ops.Operand.{Operand};
@@ -10,7 +10,7 @@ ghost use Rattle.base_forms.specs.Lines.{kept_line, merged_bases, base_line, che
 ghost use Rattle.base_tables.specs.Tables.{now_by, base_by, tabled};
 
 use base_tables::Tables;
-use ir_ast::{Callee, Cell, Inst, Name, Op, Operand, Operands, Ty, Types};
+use ir_ast::{Callee, Cell, Inst, Name, Op, Operand, Operands, Rest, Ty, Types};
 use itoa::Buffer;
 use smallvec::SmallVec;
 use sp_ids::Memory;
@@ -18,15 +18,16 @@ use std::alloc::Global;
 use std::mem;
 
 /// Gives an instruction the new numbers, where it stands.
-pub(crate) fn renumber_inst(alloc: Global, tables: &Tables, inst: &mut Inst)
-    ensures { inst.new ≡ kept_line (tabled tables.now) inst.old }
+pub(crate) fn renumber_inst(alloc: Global, tables: &Tables, inst: &mut Inst) -> Result<(), Memory>
+    ensures { OnOk result (inst.new ≡ kept_line (tabled tables.now) inst.old) }
 {
     if inst.bundle().is_empty() {
         renumber_operands(tables, inst);
     } else {
         let old = mem::replace(inst, no_line(alloc));
-        *inst = kept(tables, old);
+        *inst = kept(alloc, tables, old)?;
     }
+    Ok(())
 }
 
 fn renumber_operands(tables: &Tables, inst: &mut Inst)
@@ -42,19 +43,21 @@ fn no_line(alloc: Global) -> Inst {
         Op::Unreachable,
         Ty::Void,
         SmallVec::new(alloc),
-        SmallVec::new(alloc),
-        Vec::new(alloc),
+        Rest::nothing(),
     )
 }
 
 // The instruction itself, over the new numbers.
-fn kept(tables: &Tables, inst: Inst) -> Inst
-    ensures { result ≡ kept_line (tabled tables.now) inst }
+#[inline(never)]
+fn kept(alloc: Global, tables: &Tables, inst: Inst) -> Result<Inst, Memory>
+    ensures { IfOk result (λ line. line ≡ kept_line (tabled tables.now) inst) }
 {
-    let (named, op, ty, mut operands, labels, mut bundle) = inst.into_parts();
-    renumber(tables, operands.as_mut_slice());
+    let mut bundle = Vec::from_slice(alloc, inst.bundle())?;
     renumber_bundle(tables, bundle.as_mut_slice());
-    Inst::of(named, op, ty, operands, labels, bundle)
+    let rest = Rest::of(alloc, inst.labels(), bundle)?;
+    let (named, op, ty, mut operands, _rest) = inst.into_parts();
+    renumber(tables, operands.as_mut_slice());
+    Ok(Inst::of(named, op, ty, operands, rest))
 }
 
 fn renumber(tables: &Tables, operands: &mut [Operand])
@@ -86,15 +89,8 @@ pub(crate) fn base_line(
 {
     let named = name(alloc, b"sp.b", tables.base_rank(next))?;
     let operands = bases(alloc, tables, is_select, inst.operands())?;
-    let labels = SmallVec::from_slice(alloc, inst.labels())?;
-    Ok(Inst::of(
-        Some(named),
-        merge_op(is_select),
-        *inst.ty(),
-        operands,
-        labels,
-        Vec::new(alloc),
-    ))
+    let rest = Rest::of(alloc, inst.labels(), Vec::new(alloc))?;
+    Ok(Inst::of(Some(named), merge_op(is_select), *inst.ty(), operands, rest))
 }
 
 fn merge_op(is_select: bool) -> Op
@@ -177,16 +173,14 @@ pub(crate) fn check_line(
         op,
         Ty::Void,
         SmallVec::from_buf(alloc, operands),
-        SmallVec::new(alloc),
-        Vec::new(alloc),
+        Rest::nothing(),
     ))
 }
 
 fn check_types(alloc: Global) -> Result<Types, Memory>
     ensures { IfOk result (λ types. types ≡ Ty.Ptr ∷ Ty.Ptr ∷ Ty.Int 64 ∷ []) }
 {
-    let types = Vec::from_slice(alloc, &[Ty::Ptr, Ty::Ptr, Ty::Int(64)])?;
-    Ok(Types::of(types))
+    Types::of(alloc, &[Ty::Ptr, Ty::Ptr, Ty::Int(64)])
 }
 
 // The kind of the cell that an access of this type has.
@@ -218,25 +212,13 @@ pub(crate) fn same_line(
     operands.push(tables.operand(first))?;
     operands.push(tables.base(second))?;
     operands.push(tables.operand(second))?;
-    Ok(Inst::of(
-        named,
-        op,
-        Ty::Int(1),
-        operands,
-        SmallVec::new(alloc),
-        Vec::new(alloc),
-    ))
+    Ok(Inst::of(named, op, Ty::Int(1), operands, Rest::nothing()))
 }
 
 fn same_types(alloc: Global) -> Result<Types, Memory>
     ensures { IfOk result (λ types. types ≡ Ty.Ptr ∷ Ty.Ptr ∷ Ty.Ptr ∷ Ty.Ptr ∷ []) }
 {
-    let mut types = Vec::with_capacity(alloc, 4)?;
-    types.push(Ty::Ptr)?;
-    types.push(Ty::Ptr)?;
-    types.push(Ty::Ptr)?;
-    types.push(Ty::Ptr)?;
-    Ok(Types::of(types))
+    Types::of(alloc, &[Ty::Ptr, Ty::Ptr, Ty::Ptr, Ty::Ptr])
 }
 
 /// `%x = xor i1 %sp.sN, true`.
@@ -251,14 +233,7 @@ pub(crate) fn negation(
     let mut operands = SmallVec::new(alloc);
     operands.push(Operand::Value(tables.inserted(next)))?;
     operands.push(Operand::Int(1))?;
-    Ok(Inst::of(
-        named,
-        Op::Xor,
-        Ty::Int(1),
-        operands,
-        SmallVec::new(alloc),
-        Vec::new(alloc),
-    ))
+    Ok(Inst::of(named, Op::Xor, Ty::Int(1), operands, Rest::nothing()))
 }
 
 /// A name of this front and a number.

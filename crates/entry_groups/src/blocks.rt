@@ -40,7 +40,7 @@ fn one_block(
     if is_entry {
         entry(alloc, token, group, row, block)
     } else {
-        Ok(later(alloc, row, block))
+        later(alloc, row, block)
     }
 }
 
@@ -58,9 +58,10 @@ fn entry(
     Ok(Block::of(name, lines))
 }
 
-fn later(alloc: Global, row: &[u32], block: Block) -> Block
-    ensures { result ≡ put_block row.now block }
+fn later(alloc: Global, row: &[u32], block: Block) -> Result<Block, Memory>
+    ensures { IfOk result (λ after. after ≡ put_block row.now block) }
 {
     let (name, insts) = block.into_parts();
-    Block::of(name, with_numbers(alloc, row, insts))
+    let lines = with_numbers(alloc, row, insts)?;
+    Ok(Block::of(name, lines))
 }

@@ -1,10 +1,10 @@
 //! The lines of a block behind the group, and those of the entry.
 
-ghost use Rattle.std.specs.Prelude.{◌≡◌, ◌≤◌, ◌++◌, [], true, false, drop, length, map, slice_index, IfOk};
+ghost use Rattle.std.specs.Prelude.{◌≡◌, ◌≤◌, ◌++◌, [], true, false, drop, length, map, slice_index, IfOk, OnOk};
 ghost use Rattle.ir_ast.specs.Ops.{is_terminator};
 ghost use Rattle.entry_groups.specs.Entry.{put, put_line, group_values, first_lines, entry_lines, goes_on};
 
-use ir_ast::{Inst, Op, Operand, Ty};
+use ir_ast::{Inst, Op, Operand, Rest, Ty};
 use smallvec::SmallVec;
 use sp_ids::{Memory, ValueId};
 use statepoint_insert::{Call, Counts, Group, push_group};
@@ -12,31 +12,37 @@ use std::alloc::Global;
 use std::mem;
 
 // Gives lines these numbers, where they stand.
-fn put_all(alloc: Global, row: &[u32], lines: &mut [Inst])
-    ensures { lines.new ≡ map (put_line row.now) lines.old }
+fn put_all(alloc: Global, row: &[u32], lines: &mut [Inst]) -> Result<(), Memory>
+    ensures { OnOk result (lines.new ≡ map (put_line row.now) lines.old) }
 {
     for inst in lines.iter_mut() {
-        put_line(alloc, row, inst);
+        put_line(alloc, row, inst)?;
     }
+    Ok(())
 }
 
 /// The lines with these numbers.
-pub(crate) fn with_numbers(alloc: Global, row: &[u32], mut lines: Vec<Inst>) -> Vec<Inst>
-    ensures { result.items ≡ map (put_line row.now) lines.items }
+pub(crate) fn with_numbers(
+    alloc: Global,
+    row: &[u32],
+    mut lines: Vec<Inst>,
+) -> Result<Vec<Inst>, Memory>
+    ensures { IfOk result (λ after. after.items ≡ map (put_line row.now) lines.items) }
 {
-    put_all(alloc, row, lines.as_mut_slice());
-    lines
+    put_all(alloc, row, lines.as_mut_slice())?;
+    Ok(lines)
 }
 
-fn put_line(alloc: Global, row: &[u32], inst: &mut Inst)
-    ensures { inst.new ≡ put_line row.now inst.old }
+fn put_line(alloc: Global, row: &[u32], inst: &mut Inst) -> Result<(), Memory>
+    ensures { OnOk result (inst.new ≡ put_line row.now inst.old) }
 {
     if inst.bundle().is_empty() {
         put_operands(row, inst);
     } else {
         let old = mem::replace(inst, no_line(alloc));
-        *inst = with_bundle(row, old);
+        *inst = with_bundle(alloc, row, old)?;
     }
+    Ok(())
 }
 
 fn put_operands(row: &[u32], inst: &mut Inst)
@@ -52,18 +58,20 @@ fn no_line(alloc: Global) -> Inst {
         Op::Unreachable,
         Ty::Void,
         SmallVec::new(alloc),
-        SmallVec::new(alloc),
-        Vec::new(alloc),
+        Rest::nothing(),
     )
 }
 
-fn with_bundle(row: &[u32], inst: Inst) -> Inst
-    ensures { result ≡ put_line row.now inst }
+#[inline(never)]
+fn with_bundle(alloc: Global, row: &[u32], inst: Inst) -> Result<Inst, Memory>
+    ensures { IfOk result (λ line. line ≡ put_line row.now inst) }
 {
-    let (named, op, ty, mut operands, labels, mut bundle) = inst.into_parts();
-    put_each(row, operands.as_mut_slice());
+    let mut bundle = Vec::from_slice(alloc, inst.bundle())?;
     put_entries(row, bundle.as_mut_slice());
-    Inst::of(named, op, ty, operands, labels, bundle)
+    let rest = Rest::of(alloc, inst.labels(), bundle)?;
+    let (named, op, ty, mut operands, _rest) = inst.into_parts();
+    put_each(row, operands.as_mut_slice());
+    Ok(Inst::of(named, op, ty, operands, rest))
 }
 
 fn put_each(row: &[u32], operands: &mut [Operand])
@@ -115,7 +123,7 @@ pub(crate) fn entry_lines(
     }
     let nothing = no_line(alloc);
     let first = mem::replace(&mut insts[0], nothing);
-    put_all(alloc, row, insts.as_mut_slice());
+    put_all(alloc, row, insts.as_mut_slice())?;
     let mut lines = Vec::with_capacity(alloc, group.relocates().len().saturating_add(1))?;
     push_first(alloc, token, group, first, &mut lines)?;
     with_front(insts, lines)
@@ -144,7 +152,8 @@ fn push_first(
         return Err(Memory);
     }
     let live = values(alloc, group)?;
-    let (named, op, ty, operands, _labels, bundle) = first.into_parts();
+    let bundle = Vec::from_slice(alloc, first.bundle())?;
+    let (named, op, ty, operands, _rest) = first.into_parts();
     match op {
         Op::Call { callee, types } => {
             let call = Call {

@@ -28,11 +28,9 @@ fn show_lists(rt: &impl Print, alloc: Global) -> Result<()> {
     let name = name_of(alloc, b"a.b")?;
     let bytes = name.into_parts();
     println!(rt; "name: {bytes:?}")?;
-    let types = Types::of(vec![in alloc; Ty::Void, Ty::Ptr]?);
+    let types = Types::of(alloc, &[Ty::Void, Ty::Ptr])?;
     let list = types.list();
     println!(rt; "types: {list:?}")?;
-    let taken = types.into_parts();
-    println!(rt; "types taken apart: {taken:?}")?;
     let layout = Layout::of(name_of(alloc, b"N")?, vec![in alloc; Cell::I64, Cell::Ptr]?);
     let (name, fields) = layout.into_parts();
     println!(rt; "layout taken apart: {name:?} {fields:?}")?;

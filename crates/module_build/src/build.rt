@@ -2,6 +2,7 @@
 
 ghost use Rattle.std.specs.Prelude.{◌≡◌, [], ◌∷◌, ◌++◌, map, filter_map, not, option_map, option_to_list, drop, IfOk, OnOk};
 ghost use Rattle.std.specs.Option.{option_copied};
+ghost use Rattle.ir_ast.specs.Rests.{labels_and_bundle};
 ghost use Rattle.line_parts.specs.Parts as values;
 ghost use Rattle.line_parts.specs.Types.{Int, Managed};
 ghost use Rattle.line_parts.specs.Seen.{seen_type, seen_value, seen_entry, seen_passed};
@@ -18,7 +19,7 @@ ghost use Rattle.module_build.specs.Lost.{tables_in, after_uses, after_named, af
 use crate::fits::{fits, is_below_zero};
 use crate::lost::{Lost, add_unknown, label, nothing_lost, operand};
 use crate::scope::Scope;
-use ir_ast::{Callee, Elem, Inst, Name, Op, Operand, Operands, Pred, Ty, Types};
+use ir_ast::{Callee, Elem, Inst, Labels, Name, Op, Operand, Operands, Pred, Rest, Ty, Types};
 use ir_lines::literals::{same_type, wrapped};
 use ir_lines::names::{is_text, number_of};
 use ir_lines::operands::{binary_of, conversion_of, element_of, passed_type, type_of};
@@ -29,7 +30,7 @@ use ir_reader::{
     Value, Width,
 };
 use smallvec::SmallVec;
-use sp_ids::{BlockId, FuncId};
+use sp_ids::{BlockId, FuncId, Memory};
 use std::alloc::{AllocError, Global};
 
 // The layout of a `gc_new.T`.
@@ -76,6 +77,13 @@ fn named(alloc: Global, name: Option<&[u8]>) -> Result<Option<Name>, AllocError>
     }
 }
 
+// These labels, and no bundle.
+fn with_labels(alloc: Global, labels: &[BlockId]) -> Result<Rest, Memory>
+    ensures { IfOk result (λ rest. rest ≡ labels_and_bundle labels.now []) }
+{
+    Rest::of(alloc, labels, Vec::new(alloc))
+}
+
 // Adds an instruction with these operands and labels behind the others.
 fn push_inst(
     alloc: Global,
@@ -85,14 +93,13 @@ fn push_inst(
     operands: &[Operand],
     labels: &[BlockId],
     insts: &mut Vec<Inst>,
-) -> Result<(), AllocError>
+) -> Result<(), Memory>
     ensures { OnOk result (insts.new.items ≡ insts.old.items ++ instruction (option_copied name.entry) op ty operands.now labels.now ∷ []) }
 {
     let name = named(alloc, name)?;
     let operands = SmallVec::from_slice(alloc, operands)?;
-    let labels = SmallVec::from_slice(alloc, labels)?;
-    let none = Vec::new(alloc);
-    insts.push(Inst::of(name, op, ty, operands, labels, none))?;
+    let rest = with_labels(alloc, labels)?;
+    insts.push(Inst::of(name, op, ty, operands, rest))?;
     Ok(())
 }
 
@@ -104,15 +111,13 @@ fn push_single(
     ty: Ty,
     operand: Operand,
     insts: &mut Vec<Inst>,
-) -> Result<(), AllocError>
+) -> Result<(), Memory>
     ensures { OnOk result (insts.new.items ≡ insts.old.items ++ instruction (option_copied name.entry) op ty (operand ∷ []) [] ∷ []) }
 {
     let name = named(alloc, name)?;
     let mut operands: Operands = SmallVec::new(alloc);
     operands.push(operand)?;
-    let labels = SmallVec::new(alloc);
-    let none = Vec::new(alloc);
-    insts.push(Inst::of(name, op, ty, operands, labels, none))?;
+    insts.push(Inst::of(name, op, ty, operands, Rest::nothing()))?;
     Ok(())
 }
 
@@ -125,28 +130,26 @@ fn push_pair(
     left: Operand,
     right: Operand,
     insts: &mut Vec<Inst>,
-) -> Result<(), AllocError>
+) -> Result<(), Memory>
     ensures { OnOk result (insts.new.items ≡ insts.old.items ++ instruction (option_copied name.entry) op ty (left ∷ right ∷ []) [] ∷ []) }
 {
     let name = named(alloc, name)?;
     let mut operands: Operands = SmallVec::new(alloc);
     operands.push(left)?;
     operands.push(right)?;
-    let labels = SmallVec::new(alloc);
-    let none = Vec::new(alloc);
-    insts.push(Inst::of(name, op, ty, operands, labels, none))?;
+    insts.push(Inst::of(name, op, ty, operands, Rest::nothing()))?;
     Ok(())
 }
 
 // The types of what is passed.
-fn types_of(alloc: Global, passed: &[Passed]) -> Result<Types, AllocError>
+fn types_of(alloc: Global, passed: &[Passed]) -> Result<Types, Memory>
     ensures { IfOk result (λ types. types ≡ map given_type (map seen_passed passed.now)) }
 {
     let mut types = Vec::with_capacity(alloc, passed.len())?;
     for one in passed {
         types.push(type_of(passed_type(one)))?;
     }
-    Ok(Types::of(types))
+    Types::of(alloc, types.as_slice())
 }
 
 fn binary(
@@ -159,7 +162,7 @@ fn binary(
     right: &Value,
     insts: &mut Vec<Inst>,
     lost: &mut Lost,
-) -> Result<(), AllocError>
+) -> Result<(), Memory>
     ensures insts { OnOk result (insts.new.items ≡ insts.old.items ++ (instruction (Some name.now) (binary_of op) (Ty.Int width.bits)
         (operand_in local.now.values (Int width.bits) (seen_value left.now) ∷ operand_in local.now.values (Int width.bits) (seen_value right.now) ∷ []) []) ∷ []) }
     ensures lost { lost.new ≡ after_uses local.now.values lost.old ((seen_value left.now, Int width.bits) ∷ (seen_value right.now, Int width.bits) ∷ []) }
@@ -188,7 +191,7 @@ fn compare(
     right: &Value,
     insts: &mut Vec<Inst>,
     lost: &mut Lost,
-) -> Result<(), AllocError>
+) -> Result<(), Memory>
     ensures insts { OnOk result (insts.new.items ≡ insts.old.items ++ (instruction (Some name.now) (Op.Icmp pred) (type_of (seen_type ty))
         (operand_in local.now.values (seen_type ty) (seen_value left.now) ∷ operand_in local.now.values (seen_type ty) (seen_value right.now) ∷ []) []) ∷ []) }
     ensures lost { lost.new ≡ after_uses local.now.values lost.old ((seen_value left.now, seen_type ty) ∷ (seen_value right.now, seen_type ty) ∷ []) }
@@ -209,7 +212,7 @@ fn convert(
     to: Width,
     insts: &mut Vec<Inst>,
     lost: &mut Lost,
-) -> Result<(), AllocError>
+) -> Result<(), Memory>
     ensures insts { OnOk result (insts.new.items ≡ insts.old.items ++ (instruction (Some name.now) (conversion_of op to.bits) (Ty.Int width.bits)
         (operand_in local.now.values (Int width.bits) (seen_value value.now) ∷ []) []) ∷ []) }
     ensures lost { lost.new ≡ after_uses local.now.values lost.old ((seen_value value.now, Int width.bits) ∷ []) }
@@ -237,7 +240,7 @@ fn select(
     right: &Value,
     insts: &mut Vec<Inst>,
     lost: &mut Lost,
-) -> Result<(), AllocError>
+) -> Result<(), Memory>
     ensures insts { OnOk result (insts.new.items ≡ insts.old.items ++ (instruction (Some name.now) Op.Select (type_of (seen_type left_ty))
         (operand_in local.now.values (Int 1) (seen_value condition.now) ∷ operand_in local.now.values (seen_type left_ty) (seen_value left.now)
         ∷ operand_in local.now.values (seen_type right_ty) (seen_value right.now) ∷ []) []) ∷ []) }
@@ -271,7 +274,7 @@ fn step(
     index: &Value,
     insts: &mut Vec<Inst>,
     lost: &mut Lost,
-) -> Result<(), AllocError>
+) -> Result<(), Memory>
     ensures insts { OnOk result (insts.new.items ≡ insts.old.items ++ (instruction (Some name.now) op Ty.Ptr
         (operand_in local.now.values Managed (seen_value address.now) ∷ operand_in local.now.values (Int width.bits) (seen_value index.now) ∷ []) []) ∷ []) }
     ensures lost { lost.new ≡ after_uses local.now.values lost.old ((seen_value address.now, Managed) ∷ (seen_value index.now, Int width.bits) ∷ []) }
@@ -291,7 +294,7 @@ fn scalar_step(
     index: &Value,
     insts: &mut Vec<Inst>,
     lost: &mut Lost,
-) -> Result<(), AllocError>
+) -> Result<(), Memory>
     ensures insts { OnOk result (insts.new.items ≡ insts.old.items ++ (instruction (Some name.now) (Op.Gep (element_of (seen_type element)) width.bits None) Ty.Ptr
         (operand_in local.now.values Managed (seen_value address.now) ∷ operand_in local.now.values (Int width.bits) (seen_value index.now) ∷ []) []) ∷ []) }
     ensures lost { lost.new ≡ after_uses local.now.values lost.old ((seen_value address.now, Managed) ∷ (seen_value index.now, Int width.bits) ∷ []) }
@@ -312,7 +315,7 @@ fn load(
     address: &Value,
     insts: &mut Vec<Inst>,
     lost: &mut Lost,
-) -> Result<(), AllocError>
+) -> Result<(), Memory>
     ensures insts { OnOk result (insts.new.items ≡ insts.old.items ++ (instruction (Some name.now) Op.Load (type_of (seen_type ty))
         (operand_in local.now.values Managed (seen_value address.now) ∷ []) []) ∷ []) }
     ensures lost { lost.new ≡ after_uses local.now.values lost.old ((seen_value address.now, Managed) ∷ []) }
@@ -329,7 +332,7 @@ fn store(
     address: &Value,
     insts: &mut Vec<Inst>,
     lost: &mut Lost,
-) -> Result<(), AllocError>
+) -> Result<(), Memory>
     ensures insts { OnOk result (insts.new.items ≡ insts.old.items ++ (instruction None Op.Store (type_of (seen_type ty))
         (operand_in local.now.values (seen_type ty) (seen_value value.now) ∷ operand_in local.now.values Managed (seen_value address.now) ∷ []) []) ∷ []) }
     ensures lost { lost.new ≡ after_uses local.now.values lost.old ((seen_value value.now, seen_type ty) ∷ (seen_value address.now, Managed) ∷ []) }
@@ -347,14 +350,14 @@ fn phi(
     entries: &[Entry],
     insts: &mut Vec<Inst>,
     lost: &mut Lost,
-) -> Result<(), AllocError>
+) -> Result<(), Memory>
     ensures insts { OnOk result (insts.new.items ≡ insts.old.items ++ (instruction (Some name.now) Op.Phi (type_of (seen_type ty))
         (map (entry_operand local.now.values (seen_type ty)) (map seen_entry entries.now)) (map (entry_label local.now.blocks) (map seen_entry entries.now))) ∷ []) }
     ensures lost { OnOk result (lost.new ≡ after_named local.now.blocks (map (λ entry. entry.1) (map seen_entry entries.now))
         (after_uses local.now.values lost.old (map (entry_use (seen_type ty)) (map seen_entry entries.now)))) }
 {
     let mut operands: Operands = SmallVec::new(alloc);
-    let mut labels = SmallVec::new(alloc);
+    let mut labels: Labels = SmallVec::new(alloc);
     let mut lost_labels = nothing_lost();
     for entry in entries {
         operands.push(operand(local, ty, &entry.value, lost))?;
@@ -362,8 +365,8 @@ fn phi(
     }
     add_unknown(lost_labels.unknown, lost);
     let name = owned(alloc, name)?;
-    let none = Vec::new(alloc);
-    insts.push(Inst::of(Some(name), Op::Phi, type_of(ty), operands, labels, none))?;
+    let rest = with_labels(alloc, labels.as_slice())?;
+    insts.push(Inst::of(Some(name), Op::Phi, type_of(ty), operands, rest))?;
     Ok(())
 }
 
@@ -373,7 +376,7 @@ fn jump(
     to: &[u8],
     insts: &mut Vec<Inst>,
     lost: &mut Lost,
-) -> Result<(), AllocError>
+) -> Result<(), Memory>
     ensures insts { OnOk result (insts.new.items ≡ insts.old.items ++ (instruction None Op.Br Ty.Void [] (label_in local.now.blocks to.now ∷ [])) ∷ []) }
     ensures lost { lost.new ≡ after_named local.now.blocks (to.now ∷ []) lost.old }
 {
@@ -389,7 +392,7 @@ fn branch(
     on_false: &[u8],
     insts: &mut Vec<Inst>,
     lost: &mut Lost,
-) -> Result<(), AllocError>
+) -> Result<(), Memory>
     ensures insts { OnOk result (insts.new.items ≡ insts.old.items ++ (instruction None Op.CondBr (Ty.Int 1)
         (operand_in local.now.values (Int 1) (seen_value condition.now) ∷ [])
         (label_in local.now.blocks on_true.now ∷ label_in local.now.blocks on_false.now ∷ [])) ∷ []) }
@@ -416,7 +419,7 @@ fn ret(
     value: &Value,
     insts: &mut Vec<Inst>,
     lost: &mut Lost,
-) -> Result<(), AllocError>
+) -> Result<(), Memory>
     ensures insts { OnOk result (insts.new.items ≡ insts.old.items ++ (instruction None Op.Ret (type_of (seen_type ty)) (operand_in local.now.values (seen_type ty) (seen_value value.now) ∷ []) []) ∷ []) }
     ensures lost { lost.new ≡ after_uses local.now.values lost.old ((seen_value value.now, seen_type ty) ∷ []) }
 {
@@ -432,7 +435,7 @@ fn gc_result(
     token: ir_reader::Name,
     insts: &mut Vec<Inst>,
     lost: &mut Lost,
-) -> Result<(), AllocError>
+) -> Result<(), Memory>
     ensures insts { OnOk result (insts.new.items ≡ insts.old.items ++ (instruction (Some name.now) Op.GcResult (type_of (seen_type answer))
         (operand_in local.now.values token_type (values.local token.entry.bytes.now) ∷ []) []) ∷ []) }
     ensures lost { lost.new ≡ after_uses local.now.values lost.old (token_use token.entry.bytes.now ∷ []) }
@@ -457,7 +460,7 @@ fn gc_relocate(
     derived: Literal,
     insts: &mut Vec<Inst>,
     lost: &mut Lost,
-) -> Result<(), AllocError>
+) -> Result<(), Memory>
     ensures insts { OnOk result (insts.new.items ≡ insts.old.items ++ (instruction (Some name.now) Op.GcRelocate Ty.Ptr
         (operand_in local.now.values token_type (values.local token.entry.bytes.now)
         ∷ operand_in local.now.values (Int 32) (values.number base)
@@ -491,7 +494,7 @@ fn switch(
     behind: &[NumberedReading],
     insts: &mut Vec<Inst>,
     lost: &mut Lost,
-) -> Result<(), AllocError>
+) -> Result<(), Memory>
     ensures insts { OnOk result (insts.new.items ≡ insts.old.items ++ (instruction None Op.Switch (Ty.Int width.bits)
         (operand_in local.now.values (Int width.bits) (seen_value value.now) ∷ case_values local.now.values width.bits (seen_lines behind.now))
         (label_in local.now.blocks default.now ∷ case_labels local.now.blocks (seen_lines behind.now))) ∷ []) }
@@ -500,7 +503,7 @@ fn switch(
 {
     let ty = TypeWord::Int(width);
     let mut operands: Operands = SmallVec::new(alloc);
-    let mut labels = SmallVec::new(alloc);
+    let mut labels: Labels = SmallVec::new(alloc);
     operands.push(operand(local, ty, value, lost))?;
     labels.push(label(local, default, lost))?;
     for line in behind {
@@ -510,8 +513,8 @@ fn switch(
         operands.push(local.operand(ty, value))?;
         labels.push(local.label(label.bytes))?;
     }
-    let none = Vec::new(alloc);
-    insts.push(Inst::of(None, Op::Switch, type_of(ty), operands, labels, none))?;
+    let rest = with_labels(alloc, labels.as_slice())?;
+    insts.push(Inst::of(None, Op::Switch, type_of(ty), operands, rest))?;
     Ok(())
 }
 
@@ -583,7 +586,7 @@ impl Scope<'_, '_, '_, '_> {
         passed: &[Passed],
         insts: &mut Vec<Inst>,
         lost: &mut Lost,
-    ) -> Result<(), AllocError>
+    ) -> Result<(), Memory>
         ensures insts { OnOk result (insts.new.items ≡ insts.old.items ++ (instruction (option_copied name.entry)
             (Op.Call (callee_of (known_in self.now) callee.now) (map given_type (map seen_passed passed.now))) (type_of (seen_type answer))
             (map (passed_operand (known_in self.now)) (map seen_passed passed.now)) []) ∷ []) }
@@ -598,9 +601,7 @@ impl Scope<'_, '_, '_, '_> {
             types: types_of(alloc, passed)?,
         };
         let name = named(alloc, name)?;
-        let labels = SmallVec::new(alloc);
-        let none = Vec::new(alloc);
-        insts.push(Inst::of(name, op, type_of(answer), operands, labels, none))?;
+        insts.push(Inst::of(name, op, type_of(answer), operands, Rest::nothing()))?;
         Ok(())
     }
 
@@ -615,7 +616,7 @@ impl Scope<'_, '_, '_, '_> {
         to: TypeWord,
         insts: &mut Vec<Inst>,
         lost: &mut Lost,
-    ) -> Result<(), AllocError>
+    ) -> Result<(), Memory>
         ensures insts { OnOk result (insts.new.items ≡ insts.old.items ++ (instruction (Some name.now) (Op.Call (callee_of (known_in self.now) []) []) (type_of (seen_type to)) [] []) ∷ []) }
         ensures lost { lost.new ≡ after_spelling (not (fits_in self.now.local.now.values (map seen_type self.now.local.now.types.items) (seen_type from) (seen_value value.now)))
             (after_uses self.now.local.now.values lost.old ((seen_value value.now, seen_type from) ∷ [])) }
@@ -624,7 +625,7 @@ impl Scope<'_, '_, '_, '_> {
         lost.misspelled = !fits(self.local, from, value) || lost.misspelled;
         let op = Op::Call {
             callee: self.callee(b""),
-            types: Types::of(Vec::new(alloc)),
+            types: Types::nothing(),
         };
         push_inst(alloc, Some(name), op, type_of(to), &[], &[], insts)
     }
@@ -640,7 +641,7 @@ impl Scope<'_, '_, '_, '_> {
         index: &Value,
         insts: &mut Vec<Inst>,
         lost: &mut Lost,
-    ) -> Result<(), AllocError>
+    ) -> Result<(), Memory>
         ensures insts { OnOk result (insts.new.items ≡ insts.old.items ++ (instruction (Some name.now)
             (Op.Gep (Elem.Layout (number_in self.now.top.now.layouts layout.now)) width.bits (option_map place_of place)) Ty.Ptr
             (operand_in self.now.local.now.values Managed (seen_value address.now) ∷ operand_in self.now.local.now.values (Int width.bits) (seen_value index.now) ∷ []) []) ∷ []) }
@@ -664,7 +665,7 @@ impl Scope<'_, '_, '_, '_> {
         alloc: Global,
         passed: &[Passed],
         lost: &mut Lost,
-    ) -> Result<Operands, AllocError>
+    ) -> Result<Operands, Memory>
         ensures made { IfOk result (λ made. made.items ≡ map (passed_operand (known_in self.now)) (map seen_passed passed.now)) }
         ensures lost { OnOk result (lost.new ≡ after_uses self.now.local.now.values lost.old (filter_map passed_value (map seen_passed passed.now))) }
     {
@@ -682,7 +683,7 @@ impl Scope<'_, '_, '_, '_> {
         passed: &[Passed],
         live: &[Value],
         lost: &mut Lost,
-    ) -> Result<Operands, AllocError>
+    ) -> Result<Operands, Memory>
         ensures made { IfOk result (λ made. made.items ≡ map (passed_operand (known_in self.now)) (map seen_passed passed.now)
             ++ map (used_operand (known_in self.now)) (map live_use (map seen_value live.now))) }
         ensures lost { OnOk result (lost.new ≡ after_uses self.now.local.now.values lost.old
@@ -703,7 +704,7 @@ impl Scope<'_, '_, '_, '_> {
         call: &StatepointCall,
         operands: Operands,
         insts: &mut Vec<Inst>,
-    ) -> Result<(), AllocError>
+    ) -> Result<(), Memory>
         ensures insts { OnOk result (insts.new.items ≡ insts.old.items ++ (instruction (Some name.now)
             (Op.Statepoint (wrapped 64 (seen_guarded call.now).id) (callee_of (known_in self.now) (seen_guarded call.now).callee)
             (map given_type (seen_guarded call.now).passed)) (type_of (seen_guarded call.now).signature.answer) operands.items []) ∷ []) }
@@ -715,9 +716,7 @@ impl Scope<'_, '_, '_, '_> {
         };
         let ty = type_of(call.function_type.answer);
         let name = owned(alloc, name)?;
-        let labels = SmallVec::new(alloc);
-        let none = Vec::new(alloc);
-        insts.push(Inst::of(Some(name), op, ty, operands, labels, none))?;
+        insts.push(Inst::of(Some(name), op, ty, operands, Rest::nothing()))?;
         Ok(())
     }
 
@@ -729,7 +728,7 @@ impl Scope<'_, '_, '_, '_> {
         live: &[Value],
         insts: &mut Vec<Inst>,
         lost: &mut Lost,
-    ) -> Result<(), AllocError>
+    ) -> Result<(), Memory>
         ensures insts { OnOk result (insts.new.items ≡ insts.old.items
             ++ option_to_list (instruction_said (known_in self.now) [] (statepoint name.now (seen_guarded call.now) (map seen_value live.now)))) }
         ensures lost { OnOk result (lost.new
@@ -749,7 +748,7 @@ impl Scope<'_, '_, '_, '_> {
         behind: &[NumberedReading],
         insts: &mut Vec<Inst>,
         lost: &mut Lost,
-    ) -> Result<(), AllocError>
+    ) -> Result<(), Memory>
         ensures insts { OnOk result (insts.new.items ≡ insts.old.items
             ++ option_to_list (instruction_said (known_in self.now) (seen_lines behind.now) (said reading.now))) }
         ensures lost { OnOk result (lost.new ≡ after_line self.now.form (tables_in self.now) lost.old (said reading.now)) }

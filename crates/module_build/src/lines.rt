@@ -15,6 +15,7 @@ use crate::scope::Scope;
 use ir_ast::{Form, Inst};
 use ir_lines::best::First;
 use ir_reader::{Literal, NumberedReading, Reading, StatepointCall};
+use sp_ids::Memory;
 use std::alloc::{AllocError, Global};
 
 // A conversion from or to pointers.
@@ -126,7 +127,7 @@ pub fn resolve_line(
     insts: &mut Vec<Inst>,
     numbers: &mut Vec<u32>,
     first: &mut First,
-) -> Result<(), AllocError>
+) -> Result<(), Memory>
     ensures insts { OnOk result (insts.new.items ≡ insts.old.items ++ map (λ one. one.1)
         (with_line line.now.line (instruction_said (known_in scope.now) (seen_lines behind.now) (said line.now.reading)))) }
     ensures numbers { OnOk result (numbers.new.items ≡ numbers.old.items ++ map (λ one. one.0)

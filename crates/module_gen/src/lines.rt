@@ -6,7 +6,7 @@ ghost use Rattle.ir_ast.specs.declared.ops.Op.{Op};
 ghost use Rattle.generated_forms.specs.Lines.{numbered_name, line};
 ghost use Rattle.module_gen.specs.Written.{written};
 
-use ir_ast::{Callee, Elem, Inst, Name, Op, Operand, Pred, Ty, Types};
+use ir_ast::{Callee, Elem, Inst, Name, Op, Operand, Pred, Rest, Ty, Types};
 use itoa::Buffer;
 use smallvec::SmallVec;
 use sp_ids::{BlockId, FuncId, Memory, ValueId};
@@ -201,7 +201,7 @@ fn call_of(alloc: Global, callee: Callee, types: &[Ty]) -> Result<Op, Memory>
 {
     Ok(Op::Call {
         callee,
-        types: Types::of(Vec::from_slice(alloc, types)?),
+        types: Types::of(alloc, types)?,
     })
 }
 
@@ -254,8 +254,7 @@ fn inst(
         op,
         ty,
         SmallVec::from_slice(alloc, operands)?,
-        SmallVec::from_slice(alloc, labels)?,
-        Vec::new(alloc),
+        Rest::of(alloc, labels, Vec::new(alloc))?,
     ))
 }
 

@@ -5,7 +5,7 @@ ghost use Rattle.ir_ast.specs.Blocks.{EndsAtTerminator};
 ghost use Rattle.object_meaning.specs.Lines.{retreats};
 ghost use Rattle.base_forms.specs.Polls.{poll_call, front_poll, polled, placed_block};
 
-use ir_ast::{Block, Callee, Inst, Op, Ty, Types};
+use ir_ast::{Block, Callee, Inst, Op, Rest, Ty, Types};
 use smallvec::SmallVec;
 use sp_ids::{BlockId, Memory};
 use std::alloc::Global;
@@ -93,16 +93,9 @@ fn poll(alloc: Global) -> Inst
 {
     let op = Op::Call {
         callee: Callee::Poll,
-        types: Types::of(Vec::new(alloc)),
+        types: Types::nothing(),
     };
-    Inst::of(
-        None,
-        op,
-        Ty::Void,
-        SmallVec::new(alloc),
-        SmallVec::new(alloc),
-        Vec::new(alloc),
-    )
+    Inst::of(None, op, Ty::Void, SmallVec::new(alloc), Rest::nothing())
 }
 
 // Whether a terminator has an edge to the same or an earlier place than its block.

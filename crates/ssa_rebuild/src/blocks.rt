@@ -1,6 +1,6 @@
 //! The blocks of the final text.
 
-ghost use Rattle.std.specs.Prelude.{◌≡◌, ◌<◌, ◌^◌, ◌++◌, [], true, false, map, length, List, IfOk};
+ghost use Rattle.std.specs.Prelude.{◌≡◌, ◌<◌, ◌^◌, ◌++◌, [], true, false, map, length, List, IfOk, OnOk};
 ghost use Rattle.statepoint_insert.specs.Groups.{GroupContent};
 ghost use Rattle.std.specs.List.{list_any};
 ghost use Rattle.rewriting_forms.specs.Numbered.{is_call};
@@ -100,7 +100,7 @@ fn all_lines(
 {
     if are_kept(joined, insts.as_slice()) {
         let mut lines = insts;
-        fill_all(alloc, &mut lines, writing);
+        fill_all(alloc, &mut lines, writing)?;
         return Ok(lines);
     }
     let room = text_room(insts.as_slice(), groups, writing.counts.tokens as usize);
@@ -110,12 +110,12 @@ fn all_lines(
     Ok(lines)
 }
 
-fn fill_all(alloc: Global, lines: &mut Vec<Inst>, writing: &mut Writing<'_>)
+fn fill_all(alloc: Global, lines: &mut Vec<Inst>, writing: &mut Writing<'_>) -> Result<(), Memory>
     requires { list_any (λ inst. is_call inst.op) lines.old.items ≡ false }
-    ensures lines { (groups : List GroupContent) → lines.new.items ≡ written groups writing.old lines.old.items }
-    ensures writing { (groups : List GroupContent) → writing.new ≡ behind groups writing.old lines.old.items }
+    ensures lines { OnOk result ((groups : List GroupContent) → lines.new.items ≡ written groups writing.old lines.old.items) }
+    ensures writing { OnOk result ((groups : List GroupContent) → writing.new ≡ behind groups writing.old lines.old.items) }
 {
-    fill_lines(alloc, lines.as_mut_slice(), writing);
+    fill_lines(alloc, lines.as_mut_slice(), writing)
 }
 
 // Whether no line is put in.

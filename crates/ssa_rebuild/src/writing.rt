@@ -1,6 +1,6 @@
 //! The lines of the final text.
 
-ghost use Rattle.std.specs.Prelude.{◌≡◌, List, true, false, ◌≤◌, ◌++◌, [], ◌∷◌, ◌+◌, ◌-◌, ◌<◌, ◌^◌, if◌then◌else◌, length, take, drop, decimal, IfOk};
+ghost use Rattle.std.specs.Prelude.{◌≡◌, List, true, false, ◌≤◌, ◌++◌, [], ◌∷◌, ◌+◌, ◌-◌, ◌<◌, ◌^◌, if◌then◌else◌, length, take, drop, decimal, IfOk, OnOk};
 ghost use Rattle.ir_ast.specs.declared.ops.Op.{Op};
 ghost use Rattle.std.specs.List.{list_any};
 ghost use Rattle.ir_ast.specs.Faults.PhiEdges.{is_phi};
@@ -12,7 +12,7 @@ ghost use Rattle.ssa_rebuild.specs.Written.{filled, left, results_in, phi_uses, 
 use crate::filled::{fill, fill_bundle, values};
 use crate::lines::{is_call, is_phi};
 use crate::stream::Stream;
-use ir_ast::{Callee, Inst, Name, Op, Operand, Operands, Ty, Types};
+use ir_ast::{Callee, Inst, Name, Op, Operand, Operands, Rest, Ty, Types};
 use itoa::Buffer;
 use smallvec::SmallVec;
 use sp_ids::{BlockId, Memory, ValueId};
@@ -63,15 +63,8 @@ fn push_phi(
     writing.entries.next_ones(preds.len(), numbers)?;
     let operands = values(alloc, numbers.as_slice())?;
     let named = name(alloc, b"sp.m", writing.joined)?;
-    let labels = SmallVec::from_slice(alloc, preds)?;
-    lines.push(Inst::of(
-        Some(named),
-        Op::Phi,
-        Ty::Ptr,
-        operands,
-        labels,
-        Vec::new(alloc),
-    ))?;
+    let rest = Rest::of(alloc, preds, Vec::new(alloc))?;
+    lines.push(Inst::of(Some(named), Op::Phi, Ty::Ptr, operands, rest))?;
     writing.body.skip(1);
     writing.joined += 1;
     Ok(())
@@ -120,33 +113,39 @@ fn push_line(
         return push_call(alloc, groups, inst, writing, numbers, lines);
     }
     let mut line = inst;
-    fill_line(alloc, &mut line, writing);
+    fill_line(alloc, &mut line, writing)?;
     lines.push(line)?;
     Ok(())
 }
 
 /// Gives lines without calls their numbers, where they stand.
-pub(crate) fn fill_lines(alloc: Global, lines: &mut [Inst], writing: &mut Writing<'_>)
+pub(crate) fn fill_lines(
+    alloc: Global,
+    lines: &mut [Inst],
+    writing: &mut Writing<'_>,
+) -> Result<(), Memory>
     requires { list_any (λ inst. is_call inst.op) lines.old ≡ false }
-    ensures lines { (groups : List GroupContent) → lines.new ≡ written groups writing.old lines.old }
-    ensures writing { (groups : List GroupContent) → writing.new ≡ behind groups writing.old lines.old }
+    ensures lines { OnOk result ((groups : List GroupContent) → lines.new ≡ written groups writing.old lines.old) }
+    ensures writing { OnOk result ((groups : List GroupContent) → writing.new ≡ behind groups writing.old lines.old) }
 {
     for inst in lines.iter_mut() {
-        fill_line(alloc, inst, writing);
+        fill_line(alloc, inst, writing)?;
     }
+    Ok(())
 }
 
 // Gives a line that is kept its numbers, where it stands.
-fn fill_line(alloc: Global, inst: &mut Inst, writing: &mut Writing<'_>)
-    ensures line { inst.new ≡ plain_written writing.old.body writing.old.entries inst.old }
-    ensures writing { writing.new ≡ kept_after writing.old inst.old }
+fn fill_line(alloc: Global, inst: &mut Inst, writing: &mut Writing<'_>) -> Result<(), Memory>
+    ensures line { OnOk result (inst.new ≡ plain_written writing.old.body writing.old.entries inst.old) }
+    ensures writing { OnOk result (writing.new ≡ kept_after writing.old inst.old) }
 {
     if stands(inst) {
         fill_standing(inst, writing);
     } else {
         let old = mem::replace(inst, no_line(alloc));
-        *inst = plain(old, &mut writing.body, &mut writing.entries);
+        *inst = plain(alloc, old, &mut writing.body, &mut writing.entries)?;
     }
+    Ok(())
 }
 
 // Whether only the operands of a line change, and each of them has a number or stays.
@@ -201,21 +200,33 @@ fn no_line(alloc: Global) -> Inst {
         Op::Unreachable,
         Ty::Void,
         SmallVec::new(alloc),
-        SmallVec::new(alloc),
-        Vec::new(alloc),
+        Rest::nothing(),
     )
 }
 
-fn plain(inst: Inst, body: &mut Stream<'_>, entries: &mut Stream<'_>) -> Inst
-    ensures line { result ≡ plain_written body.old entries.old inst }
-    ensures body { body.new ≡ plain_left body.old inst }
-    ensures entries { entries.new ≡ entries_left entries.old inst }
+fn plain(
+    alloc: Global,
+    inst: Inst,
+    body: &mut Stream<'_>,
+    entries: &mut Stream<'_>,
+) -> Result<Inst, Memory>
+    ensures line { IfOk result (λ line. line ≡ plain_written body.old entries.old inst) }
+    ensures body { IfOk result (λ _. body.new ≡ plain_left body.old inst) }
+    ensures entries { IfOk result (λ _. entries.new ≡ entries_left entries.old inst) }
 {
-    let (named, op, ty, mut operands, labels, mut bundle) = inst.into_parts();
-    fill_own(is_phi(&op), labels.len(), &mut operands, body, entries);
+    let mut bundle = Vec::from_slice(alloc, inst.bundle())?;
+    let (named, op, ty, mut operands, rest) = inst.into_parts();
+    fill_own(
+        is_phi(&op),
+        rest.labels().len(),
+        &mut operands,
+        body,
+        entries,
+    );
     fill_bundle(bundle.as_mut_slice(), body);
     body.skip(results_in(&named));
-    Inst::of(named, op, ty, operands, labels, bundle)
+    let rest = Rest::of(alloc, rest.labels(), bundle)?;
+    Ok(Inst::of(named, op, ty, operands, rest))
 }
 
 // The operands of a phi that have labels, so many, over the numbers of entries, or those of another line over the block's.
@@ -305,7 +316,8 @@ fn write_group(
     ensures lines { IfOk result (λ _. lines.new.items ≡ lines.old.items ++ call_written counts group.now body.old inst inst.op) }
     ensures body { IfOk result (λ _. body.new ≡ call_left (length group.now.relocates) body.old inst) }
 {
-    let (named, op, ty, mut operands, _labels, mut bundle) = inst.into_parts();
+    let mut bundle = Vec::from_slice(alloc, inst.bundle())?;
+    let (named, op, ty, mut operands, _rest) = inst.into_parts();
     let count = group.relocates().len();
     let results = results_in(&named);
     fill(operands.as_mut_slice(), body);

@@ -6,7 +6,7 @@ ghost use Rattle.statepoint_insert.specs.Texts.{live_entries, statepoint_line, r
 
 use crate::groups::{Group, Relocate};
 use crate::indices::first_rank;
-use ir_ast::{Callee, Inst, Name, Op, Operand, Operands, Ty, Types};
+use ir_ast::{Callee, Inst, Name, Op, Operand, Operands, Rest, Ty, Types};
 use itoa::Buffer;
 use smallvec::SmallVec;
 use sp_ids::{Memory, ValueId};
@@ -51,7 +51,8 @@ pub(crate) fn statepoint(
         callee,
         types,
     };
-    Ok(Inst::of(Some(named), op, ty, entries, SmallVec::new(alloc), bundle))
+    let rest = Rest::of(alloc, &[], bundle)?;
+    Ok(Inst::of(Some(named), op, ty, entries, rest))
 }
 
 fn with_entries(operands: Operands, has_null: bool, live: &[u32]) -> Result<Operands, Memory>
@@ -87,14 +88,7 @@ pub(crate) fn push_result(
     if let Some(own) = named {
         let mut operands = SmallVec::new(alloc);
         operands.push(Operand::Value(ValueId(token)))?;
-        lines.push(Inst::of(
-            Some(own),
-            Op::GcResult,
-            ty,
-            operands,
-            SmallVec::new(alloc),
-            Vec::new(alloc),
-        ))?;
+        lines.push(Inst::of(Some(own), Op::GcResult, ty, operands, Rest::nothing()))?;
     }
     Ok(())
 }
@@ -138,8 +132,7 @@ fn relocate_line(
         Op::GcRelocate,
         Ty::Ptr,
         operands,
-        SmallVec::new(alloc),
-        Vec::new(alloc),
+        Rest::nothing(),
     ))
 }
 

@@ -32,7 +32,8 @@ use module_build::build::owned;
 use module_build::heads::arguments_of;
 use module_build::lines::{behind, resolve_line};
 use module_build::scope::Scope;
-use std::alloc::{AllocError, Global};
+use sp_ids::Memory;
+use std::alloc::Global;
 
 // The room for the instructions of the lines of a block: behind a `switch`, the last, stand its cases, which are none.
 fn room_for(lines: &[NumberedReading]) -> usize {
@@ -57,7 +58,7 @@ fn insts(
     spare: usize,
     numbers: &mut Vec<u32>,
     first: &mut First,
-) -> Result<Vec<Inst>, AllocError>
+) -> Result<Vec<Inst>, Memory>
     ensures insts { IfOk result (λ insts. insts.items ≡ insts_of (known_in scope.now) (seen_lines lines.now)) }
     ensures numbers { OnOk result (numbers.new.items
         ≡ numbers.old.items ++ numbers_of (known_in scope.now) (seen_lines lines.now)) }
@@ -86,7 +87,7 @@ fn block(
     spare: usize,
     numbers: &mut Vec<u32>,
     first: &mut First,
-) -> Result<Block, AllocError>
+) -> Result<Block, Memory>
     requires { EndsAtTerminator (insts_of (known_in scope.now) (seen_lines block.now.lines.now)) }
     ensures block { IfOk result (λ made. made ≡ record {
       name = block.now.name.now;
@@ -108,7 +109,7 @@ fn built_blocks(
     blocks: &[BlockLines],
     numbers: &mut Vec<u32>,
     first: &mut First,
-) -> Result<Vec<Block>, AllocError>
+) -> Result<Vec<Block>, Memory>
     requires { All (λ block. EndsAtTerminator (insts_of (known_in scope.now) block.lines)) (map seen_block blocks.now) }
     ensures blocks { IfOk result (λ built. built.items ≡ map (block_of (known_in scope.now)) (map seen_block blocks.now)) }
     ensures numbers { OnOk result (numbers.new.items ≡ numbers.old.items
@@ -132,7 +133,7 @@ fn function(
     names: &HeadNames,
     blocks: &[BlockLines],
     first: &mut First,
-) -> Result<Func, AllocError>
+) -> Result<Func, Memory>
     requires names { map (λ n. n.items) names.now.arguments.items
         ≡ map (λ one. one.name) (arguments_named func.now.line [] (map seen_argument func.now.arguments.now)) }
     requires blocks { map seen_block blocks.now ≡ blocks_of (seen_definition func.now) }
@@ -162,7 +163,7 @@ fn resolve_function(
     top: &Top,
     func: &Definition,
     first: &mut First,
-) -> Result<Built, AllocError>
+) -> Result<Built, Memory>
     requires { let own = seen_definition func.now in IsPlacedFunction (known_with top.now own) own }
     ensures func { let own = seen_definition func.now in
         IfOk result (λ built. built.func ≡ lined_function (known_with top.now own) own) }
@@ -193,7 +194,7 @@ fn add_function(
     made: &mut Vec<Func>,
     cases: &mut Vec<CaseLines>,
     first: &mut First,
-) -> Result<(), AllocError>
+) -> Result<(), Memory>
     requires { let own = seen_definition func.now in IsPlacedFunction (known_with top.now own) own }
     ensures funcs { let own = seen_definition func.now in
         OnOk result (made.new.items ≡ made.old.items ++ lined_function (known_with top.now own) own ∷ []) }
@@ -220,7 +221,7 @@ fn add_line<'t, 'a>(
     made: &mut Vec<Func>,
     cases: &mut Vec<CaseLines>,
     first: &mut First,
-) -> Result<(), AllocError>
+) -> Result<(), Memory>
     requires { All (λ func. IsPlacedFunction (known_with top.now func) func) (headed line.now (seen_lines body.now)) }
     ensures funcs { OnOk result (made.new.items ≡ made.old.items
         ++ map (λ func. lined_function (known_with top.now func) func) (headed line.now (seen_lines body.now))) }
@@ -245,7 +246,7 @@ pub(crate) fn resolve_functions<'a>(
     made: &mut Vec<Func>,
     cases: &mut Vec<CaseLines>,
     first: &mut First,
-) -> Result<(), AllocError>
+) -> Result<(), Memory>
     requires bodies { length bodies.items ≡ length outer.now }
     requires placed { All (λ func. IsPlacedFunction (known_with top.now func) func) (parted outer.now bodies.items) }
     ensures funcs { OnOk result (made.new.items ≡ made.old.items

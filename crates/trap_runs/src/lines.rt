@@ -5,7 +5,7 @@
 //! but for `ret`.
 
 use anyhow::{Result, bail};
-use ir_ast::{Callee, Elem, Inst, Name, Op, Operand, Pred, Ty, Types};
+use ir_ast::{Callee, Elem, Inst, Name, Op, Operand, Pred, Rest, Ty, Types};
 use smallvec::SmallVec;
 use sp_ids::{FuncId, ValueId};
 use std::alloc::Global;
@@ -27,9 +27,10 @@ pub(crate) fn inst_of(alloc: Global, line: &str) -> Result<Inst> {
     } else {
         Some(name_of(alloc, "r")?)
     };
-    let op = op_of(operator, Types::of(types))?;
+    let op = op_of(operator, Types::of(alloc, types.as_slice())?)?;
     let bundle = entries(alloc, bundle)?;
-    Ok(Inst::of(named, op, ty, operands, SmallVec::new(alloc), bundle))
+    let rest = Rest::of(alloc, &[], bundle)?;
+    Ok(Inst::of(named, op, ty, operands, rest))
 }
 
 /// A name.
