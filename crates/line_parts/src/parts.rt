@@ -22,6 +22,7 @@ use sp_text::{Kind, Name, Token};
 
 impl<'t, 'a> Cursor<'t, 'a> {
     /// Passes this word.
+    #[inline(always)]
     #[tactic(auto, unfolding(crate::specs::Gives::one_at))]
     pub fn word(&mut self, text: &[u8]) -> Result<(), Stop>
         ensures { Gives (λ _. tt) result self.new (word_at text.now self.old) }
@@ -52,6 +53,7 @@ impl<'t, 'a> Cursor<'t, 'a> {
     }
 
     /// Whether this word stands there.
+    #[inline(always)]
     pub fn begins_word(&self, text: &[u8]) -> bool
         ensures { result ≡ begins (is_word text.now) self.now }
     {

@@ -9,19 +9,30 @@ ghost use Rattle.line_tokens.specs.Marks.{is_word, is_mark, local_of, global_of,
 
 use sp_text::{Kind, Name, Token};
 
-/// Whether the bytes are these.
+/// Whether the bytes are these. It is inlined, so that a text that stands in the program costs a compare a byte: slices of
+/// unknown length are compared by a call.
+#[inline(always)]
 pub fn is_text(bytes: &[u8], text: &[u8]) -> bool
     ensures { result ≡ bytes_eq bytes.now text.now }
 {
-    bytes == text
+    if bytes.len() != text.len() {
+        return false;
+    }
+    for (i, byte) in text.iter().enumerate() {
+        if bytes[i] != *byte {
+            return false;
+        }
+    }
+    true
 }
 
 /// Whether the token is this word.
+#[inline(always)]
 pub fn is_word(token: &Token, text: &[u8]) -> bool
     ensures { result ≡ is_word text.now (tok token.now.kind token.now.bytes.now) }
 {
     match token.kind {
-        Kind::Word => token.bytes == text,
+        Kind::Word => is_text(token.bytes, text),
         _ => false,
     }
 }
