@@ -4,6 +4,7 @@ pub mod KindLemmas
 pub mod LabelLines
 pub mod LineLemmas
 pub mod LinePlaces
+pub mod RoomLemmas
 pub mod Runs
 pub mod Spelled
 pub mod TokenLemmas

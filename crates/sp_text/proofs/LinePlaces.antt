@@ -2,18 +2,16 @@
 use Rattle.std.proofs.Common.{◌≡◌, refl, ap, sym, ◌∙◌, ℕ, zero, suc, ◌+◌, ◌-◌, ◌<◌, ◌≤◌, ◌≢◌, true, false, List, [], ◌∷◌, length, take, drop, arith, None, Some, inl, inr, length-drop}
 use Rattle.std.specs.Prelude.{slice_range}
 use Rattle.std.specs.List.{prefix_len}
-use Rattle.std.proofs.lemmas.Bool.{cases_eq, ne_eqb, true≢false, cases_lt}
+use Rattle.std.proofs.lemmas.Bool.{ne_eqb, true≢false, cases_lt}
 use Rattle.std.proofs.lemmas.List.{drop-drop, take_all, nil_from_length}
 use Rattle.sp_text.specs.Bytes.{is_blank, after_blanks, semicolon}
-use Rattle.sp_text.specs.TokenAt.{IsFirstToken, BeginsNoToken, HasNoToken, past_blanks}
+use Rattle.sp_text.specs.TokenAt.{IsFirstToken, BeginsNoToken, past_blanks}
 use Rattle.sp_text.specs.Tokens.{is_token, kind_of, front_of, tok, bad, tokens}
 use Rattle.sp_text.specs.declared.tokens.Kind.{Kind}
 use Rattle.sp_text.specs.declared.tokens.Kind.TheVariants.{Word, Local, Global, Number, Quoted, Hash, Bang, Punct}
 use Rattle.sp_text.specs.declared.tokens.PlacedToken.{PlacedToken}
-use Rattle.std.proofs.lemmas.Option.{none-some}
-use Rattle.sp_text.proofs.KindLemmas.{front-never}
 use Rattle.sp_text.proofs.Runs.{list_all-prefix}
-use Rattle.sp_text.proofs.TokenLemmas.{front_of-some, front_of-none, kind_of-some, kind_of-none, tokens-after_blanks, after_blanks-first, tokens-nil, tokens-blank, tokens-comment, tokens-some, tokens-none}
+use Rattle.sp_text.proofs.TokenLemmas.{front_of-some, front_of-none, kind_of-some, kind_of-none, tokens-after_blanks, after_blanks-first, tokens-nil, tokens-comment, tokens-some, tokens-none}
 
 -- the first byte from `from` on that is no blank stands at `at`, and these follow it
 pub record StartsAt (line : List ℕ) (from at first : ℕ) (rest : List ℕ) : Type 0 where
@@ -23,13 +21,6 @@ pub record StartsAt (line : List ℕ) (from at first : ℕ) (rest : List ℕ) : 
 -- from what the calls ensure
 pub starts_at : (line : List ℕ) (from : ℕ) {at first : ℕ} {rest later : List ℕ} → at ≡ past_blanks line from → later ≡ drop at line → later ≡ first ∷ rest → StartsAt line from at first rest
 starts_at line from at later first = record { at_is = at; here = sym later ∙ first }
-
--- where the first byte there is no blank
-pub starts_here : (line : List ℕ) (at : ℕ) {first : ℕ} {rest later : List ℕ} → later ≡ drop at line → later ≡ first ∷ rest → is_blank first ≡ false → StartsAt line at at first rest
-starts_here line at {first} {rest} later is blank = record {
-  at_is = let here : drop at line ≡ first ∷ rest = sym later ∙ is in rw (here, blank) (omega arith);
-  here = sym later ∙ is;
-}
 
 past : {line : List ℕ} {from at first : ℕ} {rest : List ℕ} → StartsAt line from at first rest → after_blanks (drop from line) ≡ first ∷ rest
 past {line} {from} s =
@@ -123,19 +114,6 @@ bad_byte {line} {from} {at} {first} {rest} s comment front = record {
 
 -- nothing more
 
-pub tokens-past_blank : (line : List ℕ) (at : ℕ) {first : ℕ} {rest later : List ℕ} → later ≡ drop at line → later ≡ first ∷ rest → is_blank first ≡ true → tokens (drop at line) ≡ tokens (drop (at + 1) line)
-tokens-past_blank line at {first} {rest} later is blank =
-    let here : drop at line ≡ first ∷ rest = sym later ∙ is in
-    rw (← drop-drop 1 at line, here) (tokens-blank first rest blank)
-
-pub one_there : (line : List ℕ) (at : ℕ) {first : ℕ} {rest later : List ℕ} → later ≡ drop at line → later ≡ first ∷ rest → at + 1 ≤ length line
-one_there line at {first} {rest} later is =
-    let same : length (drop at line) ≡ length (first ∷ rest) = ap length (sym later ∙ is) in
-    omega (arith, length-drop at line, same)
-
-pub tokens-at_end : (line : List ℕ) (at : ℕ) {later : List ℕ} → later ≡ drop at line → length later ≡ 0 → tokens (drop at line) ≡ []
-tokens-at_end line at {later} is none = ap tokens (sym is ∙ nil_from_length later none) ∙ tokens-nil
-
 pub tokens-end : (line : List ℕ) (from : ℕ) {at : ℕ} {later : List ℕ} → at ≡ past_blanks line from → later ≡ drop at line → length later ≡ 0 → tokens (drop from line) ≡ []
 tokens-end line from {at} {later} at_is past_them none =
     let here : after_blanks (drop from line) ≡ [] =
@@ -145,15 +123,3 @@ tokens-end line from {at} {later} at_is past_them none =
 pub tokens-stop : {line : List ℕ} {from at first : ℕ} {rest : List ℕ} → StartsAt line from at first rest → first ≡ semicolon → tokens (drop from line) ≡ []
 tokens-stop {line} {from} {at} {first} {rest} s comment =
     tokens-after_blanks (drop from line) ∙ ap tokens (past s) ∙ ap (λ b. tokens (b ∷ rest)) comment ∙ tokens-comment rest
-
--- a byte that begins no token may begin a comment
-
-pub no_comment : (first : ℕ) (rest : List ℕ) {kind : Kind} {len : ℕ} → front_of (first ∷ rest) ≡ Some (kind, len) → first ≢ semicolon
-unfolding kind_of
-no_comment first rest front e = none-some _ (sym (front-never semicolon rest (λ cs. refl)) ∙ rw e at front)
-
-pub no_token : {line : List ℕ} {from at first : ℕ} {rest : List ℕ} → StartsAt line from at first rest → front_of (first ∷ rest) ≡ None → HasNoToken (drop from line)
-no_token {line} {from} {at} {first} {rest} s front = elim (cases_eq first semicolon) [
-  | inl e ↦ inl (tokens-stop s e)
-  | inr ne ↦ inr (tokens-bad s ne front)
-]

@@ -37,6 +37,12 @@ tokens_by line (Err byte) = bad ∷ []
 abbrev pub HasNoToken : List ℕ → Type 0
 HasNoToken bs = (tokens bs ≡ []) ⊎ (tokens bs ≡ bad ∷ [])
 
+-- what stands in the line from some place on
+pub record IsEnd (line rest : List ℕ) : Type 0 where
+  pub at : ℕ
+  pub within : at ≤ length line
+  pub is : rest ≡ drop at line
+
 -- the token as a line has it: its place in memory means nothing
 abbrev pub seen_token : Token → Tok
 seen_token token = tok token.kind token.bytes.now

@@ -42,12 +42,12 @@ pub(crate) fn name_front(bytes: &[u8]) -> Option<usize>
     ensures { MatchOption result (HasNoFront is_name bytes.now) (IsLongestFront is_name bytes.now) }
 {
     let (first, rest) = bytes.split_first()?;
-    if *first == b'0' {
+    if begins_name(*first) {
+        Some(1 + name_len(rest))
+    } else if *first == b'0' {
         Some(1)
     } else if first.is_ascii_digit() {
         Some(1 + digits_len(rest))
-    } else if begins_name(*first) {
-        Some(1 + name_len(rest))
     } else {
         None
     }

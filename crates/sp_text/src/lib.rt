@@ -2,6 +2,7 @@
 #![tactic(auto)]
 
 mod bytes;
+mod first_tokens;
 mod fronts;
 mod labels;
 mod lines;

@@ -1,7 +1,7 @@
 ghost use Rattle.std.specs.Prelude.{IsTrue};
 ghost use Rattle.sp_text.specs.Tokens.{is_token};
 
-use crate::bytes::is_blank;
+use crate::first_tokens::find_tokens;
 use crate::fronts::{after, front, past_blanks};
 use crate::lines::Line;
 use std::error::Error;
@@ -116,28 +116,7 @@ impl<'a> Line<'a> {
         ensures all { tokens self.now.bytes.now ≡ map seen_token (take result.0 room.new) ++ tokens (drop result.1 self.now.bytes.now) }
         ensures full { (result.0 ≡ length room.new) ⊎ HasNoToken (drop result.1 self.now.bytes.now) }
     {
-        let bytes = self.bytes;
-        let mut count = 0;
-        let mut at = 0;
-        while count < room.len() {
-            let Some((first, rest)) = after(bytes, at).split_first() else {
-                return (count, at);
-            };
-            if is_blank(*first) {
-                at += 1;
-                continue;
-            }
-            let Some((kind, len)) = front(*first, rest) else {
-                return (count, at);
-            };
-            let to = at + len;
-            room[count] = Token {
-                kind,
-                bytes: &bytes[at..to],
-            };
-            count += 1;
-            at = to;
-        }
-        (count, at)
+        let (count, rest) = find_tokens(self.bytes, room);
+        (count, self.bytes.len() - rest.len())
     }
 }

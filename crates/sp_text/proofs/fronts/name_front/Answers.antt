@@ -19,8 +19,8 @@ returns-then-begins_name c =
     rw (first, c.name_len.ensures.len)
     (name-plain _ _ (first_small _ _ _ c.type_inv.bytes first) (sym c.if-begins_name.ensures))
 
-pub returns-else-begins_name : goal.returns-else-begins_name
-returns-else-begins_name c =
+pub returns-else-is_ascii_digit : goal.returns-else-is_ascii_digit
+returns-else-is_ascii_digit c =
     let first = c.in_ok-first.ensures.cases.0 in
     let digit = sym c.if-is_ascii_digit.ensures.value in
     rw first (name-none _ _ digit (sym c.if-begins_name.ensures) (not_zero _ digit))
