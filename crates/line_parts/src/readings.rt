@@ -65,8 +65,8 @@ impl Default for Entry<'_> {
 /// The fields of a layout.
 pub type Fields = SmallVec<TypeWord, 4>;
 /// The arguments of a head.
-pub type Arguments<'a> = SmallVec<Argument<'a>, 2>;
+pub type Arguments<'a> = SmallVec<Argument<'a>, 1>;
 /// What a call passes, in order.
-pub type AllPassed<'a> = SmallVec<Passed<'a>, 2>;
+pub type AllPassed<'a> = SmallVec<Passed<'a>, 1>;
 /// The entries of a phi.
-pub type Entries<'a> = SmallVec<Entry<'a>, 2>;
+pub type Entries<'a> = SmallVec<Entry<'a>, 1>;
