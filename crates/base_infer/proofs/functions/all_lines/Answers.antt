@@ -12,4 +12,4 @@ returns-then-all_alone-clause-lines c =
     let all : list_all (λ inst. stands_alone given inst inst.op) c.args.insts.items ≡ true =
     ap (λ (insts : List Instruction). list_all (λ inst. stands_alone given inst inst.op) insts) (sym c.as_slice.ensures.value)
     ∙ sym c.all_alone.ensures ∙ c.if-all_alone.true in
-    c.renumbered.ensures ∙ sym (alone_insts given c.args.start c.args.insts.items all)
+    c.in_ok-lines.ensures ∙ sym (alone_insts given c.args.start c.args.insts.items all)
