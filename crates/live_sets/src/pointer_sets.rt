@@ -61,19 +61,27 @@ impl PointerSet {
     }
 
     /// Puts a value in.
+    #[inline(always)]
     pub(crate) fn put(&mut self, value: ValueId) -> Result<(), Memory>
         ensures { IfOk result (λ _. Puts value.0 self.old self.new) }
     {
         let place = value.0 as usize;
-        if place >= self.stamps.len() {
-            self.set.insert(value.0)?;
+        if place < self.stamps.len() && self.stamps[place] == self.stamp {
             return Ok(());
         }
-        if self.stamps[place] == self.stamp {
-            return Ok(());
-        }
+        self.put_in(value)
+    }
+
+    // The rarer part of `put`, for a value without the stamp.
+    #[inline(never)]
+    fn put_in(&mut self, value: ValueId) -> Result<(), Memory>
+        ensures { IfOk result (λ _. Puts value.0 self.old self.new) }
+    {
+        let place = value.0 as usize;
         self.set.insert(value.0)?;
-        self.stamps[place] = self.stamp;
+        if place < self.stamps.len() {
+            self.stamps[place] = self.stamp;
+        }
         Ok(())
     }
 

@@ -54,6 +54,7 @@ fn base_in(marks: &[bool], bases: &[Operand], value: Option<ValueId>) -> Option<
 }
 
 /// Puts a value into a set of pointers, where it is one.
+#[inline(always)]
 pub(crate) fn put(
     marks: &[bool],
     value: Option<ValueId>,
@@ -87,6 +88,7 @@ fn take(marks: &[bool], value: Option<ValueId>, set: &mut PointerSet)
 }
 
 /// Puts in what an operand uses.
+#[inline(always)]
 pub(crate) fn put_operand(
     marks: &[bool],
     bases: &[Operand],
