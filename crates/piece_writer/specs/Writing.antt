@@ -15,7 +15,7 @@ pub record Writing : Type 0 where
 -- that of a writer, by what its sink has written and counted
 abbrev pub writing : {S : Type 0} → (S → Option (List ℕ)) → (S → ℕ) → PieceWriter S → Writing
 writing written faults writer =
-    record { written = written writer.out.now; faults = faults writer.out.now; held = writer.held.items; failed = writer.failed }
+    record { written = written writer.out.now; faults = faults writer.out.now; held = writer.held; failed = writer.failed }
 
 -- the writer puts into this sink
 abbrev pub IsInto : {S : Type 0} → MutBor S → PieceWriter S → Type 0

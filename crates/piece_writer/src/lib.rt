@@ -2,6 +2,7 @@
 //! puts.
 #![tactic(auto)]
 
+mod held;
 mod numbers;
 mod piece_sink;
 mod pieces;

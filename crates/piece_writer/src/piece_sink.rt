@@ -17,6 +17,11 @@ pub trait PieceSink {
         ensures ok { OnOk result (took self.old self.new bytes.now) }
         ensures err { OnErr result (failed_within self.old self.new bytes.now) };
 
+    /// Takes all bytes of two texts, one after the other, or fails.
+    fn put_both(&mut self, first: &[u8], second: &[u8]) -> Result<(), Failed>
+        ensures ok { OnOk result (took self.old self.new (first.now ++ second.now)) }
+        ensures err { OnErr result (failed_within self.old self.new (first.now ++ second.now)) };
+
     ghost took_nothing: { (sink : Self) → took sink sink [] };
 
     ghost took_both: { (old mid new : Self) (first second : List ℕ) → took old mid first → took mid new second → took old new (first ++ second) };

@@ -1,15 +1,12 @@
 //! A writer that gathers pieces.
-ghost use Rattle.std.specs.Prelude.{◌≡◌, [], true, false, OnOk, OnErr};
+ghost use Rattle.std.specs.Prelude.{◌≡◌, ◌++◌, [], true, false, OnOk, OnErr};
 ghost use Rattle.std.proofs.Common.{◌∙◌, refl};
 ghost use Rattle.piece_writer.specs.Writing.{writing, ended, IsInto, Grew, Fell, Takes, Fails};
 ghost use Rattle.piece_writer.specs.WritingLaws.{Grew-nothing, Grew-both, Fell-first, Fell-second};
 
 use crate::PieceSink;
-use arrayvec::ArrayVec;
+use crate::held::Held;
 use tool_io::{Failed, Sink};
-
-/// How many bytes a writer holds at most.
-const MOST_HELD: usize = 8_192;
 
 /// A writer that gathers the pieces of a text in a buffer of fixed size, and puts them into a sink
 /// together. A piece that is longer than the buffer is put whole. After a failed put nothing more is
@@ -17,7 +14,7 @@ const MOST_HELD: usize = 8_192;
 #[derive(Drop)]
 pub struct PieceWriter<'a, S> {
     out: &'a mut S,
-    held: ArrayVec<u8, MOST_HELD>,
+    held: Held,
     failed: bool,
 }
 
@@ -29,7 +26,7 @@ impl<'a, S: Sink> PieceWriter<'a, S> {
     {
         PieceWriter {
             out,
-            held: ArrayVec::new(),
+            held: Held::new(),
             failed: false,
         }
     }
@@ -38,36 +35,63 @@ impl<'a, S: Sink> PieceWriter<'a, S> {
     fn put_held(&mut self) -> Result<(), Failed>
         requires { self.old.failed ≡ false }
         ensures ok { OnOk result (Takes S.written S.faults self.old self.new []) }
-        ensures empty { OnOk result (self.new.held.items ≡ []) }
+        ensures empty { OnOk result (self.new.held ≡ []) }
         ensures err { OnErr result (Fails S.written S.faults self.old self.new []) }
     {
         self.failed = true;
-        self.out.put(&self.held)?;
+        self.out.put(self.held.bytes())?;
         self.held.clear();
         self.failed = false;
         Ok(())
     }
 
     // Puts the bytes that are held, and then holds these or puts them. It is called once for a whole buffer, so that the way on
-    // which bytes are held stays short.
+    // which bytes are held stays short. That a put failed is found here: until then, what is held after it is put nowhere.
     #[cold]
     #[inline(never)]
     fn put_past(&mut self, bytes: &[u8]) -> Result<(), Failed>
-        requires { self.old.failed ≡ false }
         ensures ok { OnOk result (Takes S.written S.faults self.old self.new bytes.now) }
         ensures err { OnErr result (Fails S.written S.faults self.old self.new bytes.now) }
     {
+        if self.failed {
+            return Err(Failed);
+        }
         self.put_held()?;
-        if self.held.try_extend_from_slice(bytes).is_ok() {
+        if bytes.len() <= self.held.room() {
+            self.held.add(bytes);
             return Ok(());
         }
         self.put_now(bytes)
     }
 
+    // Holds these bytes, or puts what is held first.
+    #[inline(always)]
+    fn hold(&mut self, bytes: &[u8]) -> Result<(), Failed>
+        ensures ok { OnOk result (Takes S.written S.faults self.old self.new bytes.now) }
+        ensures err { OnErr result (Fails S.written S.faults self.old self.new bytes.now) }
+    {
+        if bytes.len() <= self.held.room() {
+            self.held.add(bytes);
+            return Ok(());
+        }
+        self.put_past(bytes)
+    }
+
+    // Holds two texts that have no room together, each on its own.
+    #[cold]
+    #[inline(never)]
+    fn hold_each(&mut self, first: &[u8], second: &[u8]) -> Result<(), Failed>
+        ensures ok { OnOk result (Takes S.written S.faults self.old self.new (first.now ++ second.now)) }
+        ensures err { OnErr result (Fails S.written S.faults self.old self.new (first.now ++ second.now)) }
+    {
+        self.hold(first)?;
+        self.hold(second)
+    }
+
     // Puts these bytes, where none is held.
     fn put_now(&mut self, bytes: &[u8]) -> Result<(), Failed>
         requires sound { self.old.failed ≡ false }
-        requires empty { self.old.held.items ≡ [] }
+        requires empty { self.old.held ≡ [] }
         ensures ok { OnOk result (Takes S.written S.faults self.old self.new bytes.now) }
         ensures err { OnErr result (Fails S.written S.faults self.old self.new bytes.now) }
     {
@@ -83,7 +107,7 @@ impl<'a, S: Sink> PieceWriter<'a, S> {
         ensures err { OnErr result (Fell (writing S.written S.faults self.entry) (ended (S.written self.exit.0.now) (S.faults self.exit.0.now) true) []) }
     {
         let PieceWriter { out, held, failed } = self;
-        if failed { Err(Failed) } else { out.put(&held) }
+        if failed { Err(Failed) } else { out.put(held.bytes()) }
     }
 }
 
@@ -102,12 +126,17 @@ impl<S: Sink> PieceSink for PieceWriter<'_, S> {
 
     #[inline(always)]
     fn put(&mut self, bytes: &[u8]) -> Result<(), Failed> {
-        if self.failed {
-            return Err(Failed);
-        }
-        if self.held.try_extend_from_slice(bytes).is_ok() {
+        self.hold(bytes)
+    }
+
+    #[inline(always)]
+    fn put_both(&mut self, first: &[u8], second: &[u8]) -> Result<(), Failed> {
+        let room = self.held.room();
+        if first.len() <= room && second.len() <= room - first.len() {
+            self.held.add(first);
+            self.held.add(second);
             return Ok(());
         }
-        self.put_past(bytes)
+        self.hold_each(first, second)
     }
 }

@@ -1,14 +1,7 @@
-use Rattle.std.proofs.Common.{◌≡◌, [], false, Result, Ok, Err, OnErr, sym, subst, ◌∙◌}
-use Rattle.std.specs.Result.{is_ok}
-use Rattle.std.proofs.lemmas.Bool.{false≢true}
+use Rattle.std.proofs.Common.{[], ◌∙◌}
 use Rattle.std.proofs.lemmas.Result.{err_from_is_err_and, on_ok_weaker, on_err_weaker}
-use Rattle.piece_writer.specs.Writing.{Takes}
 use Rattle.piece_writer.specs.WritingLaws.{Grew-both, Fell-first, Fell-second}
 use Rattle.piece_writer.proofs.writer.PieceWriter.put_past.Goals as goal
-
-where_err : {T E P : Type 0} (result : Result T E) → false ≡ is_ok result → OnErr result P → P
-where_err (Ok x) none fact = absurd (false≢true none)
-where_err (Err e) err fact = fact
 
 pub returns-in_err-put_held-clause-err : goal.returns-in_err-put_held-clause-err
 returns-in_err-put_held-clause-err g c =
@@ -17,16 +10,10 @@ returns-in_err-put_held-clause-err g c =
 
 pub returns-clause-ok : goal.returns-clause-ok
 returns-clause-ok g c =
-    let same = where_err c.try_extend_from_slice.result c.if-is_ok.ensures.value c.try_extend_from_slice.ensures.err in
-    let kept =
-    subst (λ held. Takes g.S.Sink.written g.S.Sink.faults c.args.self.now (record c.put_held.new.self { held = held }) [])
-    (sym same) c.in_ok-put_held.ensures.ok in
+    let kept = c.in_ok-put_held.ensures.ok in
     on_ok_weaker c.put_now.result (λ one. (one.0 ∙ kept.0, Grew-both _ _ _ [] c.args.bytes.now kept.1 one.1)) c.put_now.ensures.ok
 
 pub returns-clause-err : goal.returns-clause-err
 returns-clause-err g c =
-    let same = where_err c.try_extend_from_slice.result c.if-is_ok.ensures.value c.try_extend_from_slice.ensures.err in
-    let kept =
-    subst (λ held. Takes g.S.Sink.written g.S.Sink.faults c.args.self.now (record c.put_held.new.self { held = held }) [])
-    (sym same) c.in_ok-put_held.ensures.ok in
+    let kept = c.in_ok-put_held.ensures.ok in
     on_err_weaker c.put_now.result (λ one. (one.0 ∙ kept.0, Fell-second _ _ _ [] c.args.bytes.now kept.1 one.1)) c.put_now.ensures.err
