@@ -9,7 +9,7 @@ use Rattle.print_tables.specs.Waypoints.{instructions_from, StandBefore, IsWaypo
 use Rattle.print_tables.proofs.NameLemmas.{result_name-at_later, result_name-at_none}
 
 -- the instructions from a place in the block with this number on
-instructions_from-drop : (blocks : List BasicBlock) (place inst : ℕ) (block : BasicBlock) → place < length blocks → block ≡ get_or blocks place block → instructions_from (drop place blocks) inst ≡ drop inst block.insts ++ instructions_of (drop (place + 1) blocks)
+pub instructions_from-drop : (blocks : List BasicBlock) (place inst : ℕ) (block : BasicBlock) → place < length blocks → block ≡ get_or blocks place block → instructions_from (drop place blocks) inst ≡ drop inst block.insts ++ instructions_of (drop (place + 1) blocks)
 instructions_from-drop blocks place inst block within is = rw (add-one, drop-cons blocks place block, ← is)
 
 -- a place with as many results before it is a waypoint

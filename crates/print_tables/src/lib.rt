@@ -10,4 +10,4 @@ mod waypoints;
 pub use called::Called;
 pub use externals::External;
 pub use names::{Scope, after, name_of_layout};
-pub use waypoints::{Waypoint, Waypoints, is_short};
+pub use waypoints::{Waypoint, Waypoints, count_results};

@@ -1,5 +1,5 @@
 //! What the lines of a function name.
-ghost use Rattle.std.specs.Prelude.{◌≡◌, map, drop};
+ghost use Rattle.std.specs.Prelude.{◌≡◌, map, drop, IfSome};
 ghost use Rattle.std.specs.List.{All};
 ghost use Rattle.ir_ast.specs.Funcs.{content_of, instructions_of};
 ghost use Rattle.print_tables.specs.Names.{layout_name, function_name, block_name, value_name, result_name as name_of_result};
@@ -40,11 +40,11 @@ impl<'a> Model for Scope<'a> {
 
 impl<'a> Scope<'a> {
     /// The scope of a function in which names are found from its waypoints.
-    pub fn of(
+    pub fn of<const MOST: usize>(
         layouts: &'a [Layout],
         funcs: &'a [Func],
         func: &'a Func,
-        waypoints: &'a Waypoints,
+        waypoints: &'a Waypoints<MOST>,
     ) -> Scope<'a>
         requires { All (IsWaypoint func.now.content.blocks) waypoints.now }
         ensures { result ≡ record { layouts = layouts.now; funcs = map content_of funcs.now; func = func.now.content } }
@@ -161,10 +161,29 @@ fn result_name<'a>(
     ensures { result.now ≡ name_of_result (instructions_of blocks.now) number }
 {
     let start = waypoint_before(waypoints, power, number);
-    name_from(blocks, start, number - start.results as usize)
+    let left = number - start.results as usize;
+    if left == 0 {
+        if let Some(name) = name_at(blocks, start) {
+            return name;
+        }
+    }
+    name_from(blocks, start, left)
+}
+
+// The name of the first result from a place on, where the instruction there has it.
+fn name_at(blocks: &[Block], start: Waypoint) -> Option<&[u8]>
+    ensures { IfSome result (λ name. name.now ≡ name_of_result (instructions_from (drop start.block blocks.now) start.inst) 0) }
+{
+    let block = blocks.get(start.block as usize)?;
+    let inst = block.insts().get(start.inst as usize)?;
+    match inst.result() {
+        Some(name) => Some(name.bytes()),
+        None => None,
+    }
 }
 
 // The same among the results from a place on.
+#[inline(never)]
 fn name_from(blocks: &[Block], start: Waypoint, number: usize) -> &[u8]
     ensures { result.now ≡ name_of_result (instructions_from (drop start.block blocks.now) start.inst) number }
 {

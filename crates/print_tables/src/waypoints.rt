@@ -16,20 +16,14 @@ pub struct Waypoint {
     pub inst: u32,
 }
 
-// How many waypoints a function has at most.
-const MOST: usize = 1_024;
-
-// A function with fewer results is walked over from its start.
-const FEW: usize = 32;
-
-/// Waypoints of a function, from which the names of its values are found. Contracts see their list.
+/// Waypoints of a function, at most `MOST`, from which the names of its values are found. Contracts see their list.
 #[derive(Drop)]
-pub struct Waypoints {
+pub struct Waypoints<const MOST: usize> {
     power: u32,
     places: ArrayVec<Waypoint, MOST>,
 }
 
-impl Model for Waypoints {
+impl<const MOST: usize> Model for Waypoints<MOST> {
     ghost use Rattle.std.specs.Prelude.{List};
     ghost use Rattle.print_tables.specs.declared.waypoints.Waypoint.{Waypoint as Place};
 
@@ -38,12 +32,12 @@ impl Model for Waypoints {
     ghost view = { λ waypoints. waypoints.places.items };
 }
 
-impl Waypoints {
-    /// Walks over the function once.
-    pub fn of(func: &Func) -> Waypoints
+impl<const MOST: usize> Waypoints<MOST> {
+    /// Walks over the function once, which has about so many results.
+    pub fn of(func: &Func, results: usize) -> Waypoints<MOST>
         ensures { All (IsWaypoint func.now.content.blocks) result }
     {
-        let power = power_for(func.blocks());
+        let power = power_for(results, MOST);
         Waypoints {
             power,
             places: waypoints_of(func.blocks(), power),
@@ -63,13 +57,8 @@ impl Waypoints {
     }
 }
 
-/// Whether the function has so few results that it needs no waypoints.
-pub fn is_short(func: &Func) -> bool {
-    count_of(func.blocks()) < FEW
-}
-
 // Waypoints of these blocks: one at each so many results, of which the number is 2 to this power.
-fn waypoints_of(blocks: &[Block], power: u32) -> ArrayVec<Waypoint, MOST>
+fn waypoints_of<const MOST: usize>(blocks: &[Block], power: u32) -> ArrayVec<Waypoint, MOST>
     ensures { All (IsWaypoint blocks.now) result.items }
 {
     let mask = 1usize.wrapping_shl(power).saturating_sub(1);
@@ -90,7 +79,7 @@ fn waypoints_of(blocks: &[Block], power: u32) -> ArrayVec<Waypoint, MOST>
 }
 
 // Adds a waypoint, where the number of results is one at which there is to be one, and there is room.
-fn add(
+fn add<const MOST: usize>(
     results: usize,
     mask: usize,
     block: usize,
@@ -118,21 +107,20 @@ fn waypoint_at(results: usize, block: usize, inst: usize) -> Option<Waypoint>
     })
 }
 
-// The power of 2 that these blocks have results for each waypoint, so that there are waypoints for all.
-fn power_for(blocks: &[Block]) -> u32 {
-    let count = count_of(blocks);
+// The power of 2 that so many results are for each waypoint, so that there are waypoints for all.
+fn power_for(results: usize, most: usize) -> u32 {
     for power in 0..32 {
-        if count.wrapping_shr(power) < MOST {
+        if results.wrapping_shr(power) < most {
             return power;
         }
     }
     32
 }
 
-// How many results these blocks have.
-fn count_of(blocks: &[Block]) -> usize {
+/// How many results the function has.
+pub fn count_results(func: &Func) -> usize {
     let mut count = 0usize;
-    for block in blocks {
+    for block in func.blocks() {
         for inst in block.insts() {
             if inst.result().is_some() {
                 count = count.saturating_add(1);

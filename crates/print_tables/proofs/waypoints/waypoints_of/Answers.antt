@@ -8,7 +8,7 @@ use Rattle.print_tables.proofs.waypoints.waypoints_of.Goals as goal
 use Rattle.print_tables.proofs.waypoints.waypoints_of.Goals.{then-is_some+in-Some, else-is_some}
 
 pub loop-inst-preserved : goal.loop-inst-preserved
-loop-inst-preserved c =
+loop-inst-preserved g c =
     let known : List Waypoint → Type 0 = All (IsWaypoint c.args.blocks.now) in
     let later = instructions_of (drop (c.loop-block.block + 1) c.args.blocks.now) in
     let counted : ℕ → Type 0 = λ results. StandBefore (instructions_of c.args.blocks.now) (drop (c.loop-inst.inst + 1) c.insts-line-items.result.now ++ later) results in
