@@ -5,7 +5,7 @@ ghost use Rattle.ir_ast.specs.Funcs.{content_of, instructions_of};
 ghost use Rattle.print_tables.specs.Names.{layout_name, function_name, block_name, value_name, result_name as name_of_result};
 ghost use Rattle.print_tables.specs.Waypoints.{instructions_from, IsWaypoint};
 
-use crate::waypoints::{Waypoint, Waypoints, waypoint_before};
+use crate::waypoints::{Waypoint, Waypoints, waypoint_at, waypoint_before};
 use ir_ast::{Block, Func, Layout};
 use sp_ids::{BlockId, FuncId, ValueId};
 use std::marker::Model;
@@ -160,30 +160,48 @@ fn result_name<'a>(
     requires { All (IsWaypoint blocks.now) waypoints.now }
     ensures { result.now ≡ name_of_result (instructions_of blocks.now) number }
 {
-    let start = waypoint_before(waypoints, power, number);
-    let left = number - start.results as usize;
-    if left == 0 {
-        if let Some(name) = name_at(blocks, start) {
-            return name;
-        }
+    match name_at_waypoint(blocks, waypoints, power, number) {
+        Some(name) => name,
+        None => name_past_waypoint(blocks, waypoints, power, number),
     }
-    name_from(blocks, start, left)
 }
 
-// The name of the first result from a place on, where the instruction there has it.
-fn name_at(blocks: &[Block], start: Waypoint) -> Option<&[u8]>
-    ensures { IfSome result (λ name. name.now ≡ name_of_result (instructions_from (drop start.block blocks.now) start.inst) 0) }
+// The same, where a waypoint stands at that result.
+#[inline(always)]
+fn name_at_waypoint<'a>(
+    blocks: &'a [Block],
+    waypoints: &[Waypoint],
+    power: u32,
+    number: usize,
+) -> Option<&'a [u8]>
+    requires { All (IsWaypoint blocks.now) waypoints.now }
+    ensures { IfSome result (λ name. name.now ≡ name_of_result (instructions_of blocks.now) number) }
 {
-    let block = blocks.get(start.block as usize)?;
-    let inst = block.insts().get(start.inst as usize)?;
+    let waypoint = waypoint_at(waypoints, power, number)?;
+    let block = blocks.get(waypoint.block as usize)?;
+    let inst = block.insts().get(waypoint.inst as usize)?;
     match inst.result() {
         Some(name) => Some(name.bytes()),
         None => None,
     }
 }
 
-// The same among the results from a place on.
+// The same, where one stands before it, or none.
 #[inline(never)]
+fn name_past_waypoint<'a>(
+    blocks: &'a [Block],
+    waypoints: &[Waypoint],
+    power: u32,
+    number: usize,
+) -> &'a [u8]
+    requires { All (IsWaypoint blocks.now) waypoints.now }
+    ensures { result.now ≡ name_of_result (instructions_of blocks.now) number }
+{
+    let start = waypoint_before(waypoints, power, number);
+    name_from(blocks, start, number - start.results as usize)
+}
+
+// The name of the result with this number among the results from a place on.
 fn name_from(blocks: &[Block], start: Waypoint, number: usize) -> &[u8]
     ensures { result.now ≡ name_of_result (instructions_from (drop start.block blocks.now) start.inst) number }
 {

@@ -92,12 +92,12 @@ fn add<const MOST: usize>(
     if results & mask != 0 {
         return;
     }
-    if let Some(waypoint) = waypoint_at(results, block, inst) {
+    if let Some(waypoint) = waypoint_of(results, block, inst) {
         let _ = waypoints.try_push(waypoint);
     }
 }
 
-fn waypoint_at(results: usize, block: usize, inst: usize) -> Option<Waypoint>
+fn waypoint_of(results: usize, block: usize, inst: usize) -> Option<Waypoint>
     ensures { IfSome result (λ waypoint. waypoint ≡ record { results = results; block = block; inst = inst }) }
 {
     Some(Waypoint {
@@ -144,5 +144,17 @@ pub(crate) fn waypoint_before(waypoints: &[Waypoint], power: u32, number: usize)
             block: 0,
             inst: 0,
         },
+    }
+}
+
+/// The one of the waypoints at the result with this number, where they stand as they do for this power.
+#[inline(always)]
+pub(crate) fn waypoint_at(waypoints: &[Waypoint], power: u32, number: usize) -> Option<&Waypoint>
+    ensures right { IfSome result (λ waypoint. (blocks : List BasicBlock) → All (IsWaypoint blocks) waypoints.now → IsWaypoint blocks waypoint.now) }
+    ensures at { IfSome result (λ waypoint. waypoint.now.results ≡ number) }
+{
+    match waypoints.get(number.wrapping_shr(power)) {
+        Some(waypoint) if waypoint.results as usize == number => Some(waypoint),
+        _ => None,
     }
 }
