@@ -107,7 +107,11 @@ impl<'a, S: Sink> PieceWriter<'a, S> {
         ensures err { OnErr result (Fell (writing S.written S.faults self.entry) (ended (S.written self.exit.0.now) (S.faults self.exit.0.now) true) []) }
     {
         let PieceWriter { out, held, failed } = self;
-        if failed { Err(Failed) } else { out.put(held.bytes()) }
+        if failed {
+            Err(Failed)
+        } else {
+            out.put(held.bytes())
+        }
     }
 }
 

@@ -14,10 +14,10 @@ returns-in-Some c =
     let found = c.in_ok-block.ensures.lookup in
     let one = c.in_ok-inst.ensures.lookup in
     c.bytes.ensures ∙ sym (
-      ap (result_name (instructions_of c.args.blocks.now)) (sym there)
-      ∙ c.in_ok-waypoint.ensures.right c.args.blocks.now c.requires 0
-      ∙ ap (λ (insts : List Instruction). result_name insts 0)
-      (instructions_from-drop c.args.blocks.now waypoint.block waypoint.inst c.in_ok-block.block.now found.3.0 found.1)
-      ∙ result_name-at_first c.in_ok-block.block.now.insts waypoint.inst c.in_ok-inst.inst.now
-      _ 0 c.in-Some.name (rw c.insts.ensures.value at one.3.0) (rw c.insts.ensures.value at one.1) (sym c.result.ensures ∙ c.in-Some.is) refl
-      )
+    ap (result_name (instructions_of c.args.blocks.now)) (sym there)
+    ∙ c.in_ok-waypoint.ensures.right c.args.blocks.now c.requires 0
+    ∙ ap (λ (insts : List Instruction). result_name insts 0)
+    (instructions_from-drop c.args.blocks.now waypoint.block waypoint.inst c.in_ok-block.block.now found.3.0 found.1)
+    ∙ result_name-at_first c.in_ok-block.block.now.insts waypoint.inst c.in_ok-inst.inst.now
+    _ 0 c.in-Some.name (rw c.insts.ensures.value at one.3.0) (rw c.insts.ensures.value at one.1) (sym c.result.ensures ∙ c.in-Some.is) refl
+    )
