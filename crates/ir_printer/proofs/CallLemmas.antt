@@ -14,6 +14,10 @@ use Rattle.ir_ast.specs.Insts.{Instruction}
 cons-not_empty : {T : Type 0} (x : T) (xs : List T) → true ≡ (length (x ∷ xs) == 0) → ⊥
 cons-not_empty x xs empty = true≢false (empty ∙ eqb-suc-zero (length xs))
 
+pub bundles-none : (names : Names) (bundle : List (Ty × Operand)) → true ≡ (length bundle == 0) → bundles_text names bundle [] ≡ []
+bundles-none names [] none = refl
+bundles-none names (value ∷ bundle) none = absurd (cons-not_empty value bundle none)
+
 pub bundles-live : (names : Names) (bundle : List (Ty × Operand)) (entries : List Operand) → true ≡ (length bundle == 0) → false ≡ (length entries == 0) → bundles_text names bundle entries ≡ codes " [ " ++ (live_text names entries ++ codes " ]")
 bundles-live names [] [] none some = absurd (cc)
 bundles-live names [] (entry ∷ entries) none some = refl

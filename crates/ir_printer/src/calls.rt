@@ -1,5 +1,5 @@
 //! Calls, statepoints, and the results and relocates after them.
-ghost use Rattle.std.specs.Prelude.{◌≡◌, ◌≤◌, ◌++◌, ℕ, List, [], codes, map, drop};
+ghost use Rattle.std.specs.Prelude.{◌≡◌, ◌≤◌, ◌++◌, ℕ, List, [], codes, map, drop, OnOk, OnErr};
 ghost use Rattle.std.specs.List.{zip};
 ghost use Rattle.ir_ast.specs.declared.types.Ty.TheVariants.{Ptr};
 ghost use Rattle.ir_printer.specs.Operands.{parameter_text, typed_text, argument_text};
@@ -7,7 +7,7 @@ ghost use Rattle.ir_printer.specs.Lists.{joined};
 ghost use Rattle.ir_printer.specs.Calls.{callee_name, deopt_text, live_text, bundles_text, call_start_text, call_text, statepoint_words, elementtype_words, end_words, arguments_of, target_text, counted_text, statepoint_text, result_suffix, result_words, result_text, relocate_words, relocate_text};
 
 use crate::operands::{Argument, NextArgument, NextTyped, ParameterWord, Typed, Value, operand_of};
-use crate::puts::{put_both, put_then};
+use crate::puts::put_then;
 use crate::runs::put_from;
 use crate::words::{Integer, TypeWord};
 use ir_ast::{Callee, Inst, Operand, Ty};
@@ -30,7 +30,7 @@ impl Piece for CalleeName<'_> {
     fn put_into<W: PieceSink>(&self, out: &mut W) -> Result<(), Failed> {
         match self.callee {
             Callee::Fun(func) => out.put(self.scope.function(func)),
-            Callee::New(layout) => { put_both(b"gc_new.", self.scope.layout(layout), out) }
+            Callee::New(layout) => out.put_both(b"gc_new.", self.scope.layout(layout)),
             Callee::Print => out.put(b"print_i64"),
             Callee::Read => out.put(b"read_i64"),
             Callee::TaskStart => out.put(b"task_start"),
@@ -252,18 +252,49 @@ impl Piece for Call<'_> {
             types: self.types,
             operands: self.inst.operands(),
         };
-        let bundles = Bundles {
-            scope: self.scope,
-            bundle: self.inst.bundle(),
-            entries: &[],
-        };
         let start = CallStart {
             scope: self.scope,
             ty: *self.inst.ty(),
             callee: self.callee,
         };
-        (start, arguments, Bytes(b")"), bundles).put_into(out)
+        let end = CallEnd {
+            scope: self.scope,
+            inst: self.inst,
+        };
+        (start, arguments, end).put_into(out)
     }
+}
+
+// The bracket after the arguments of a call, and its bundle, which few calls have.
+#[derive(Drop)]
+struct CallEnd<'a> {
+    scope: &'a Scope<'a>,
+    inst: &'a Inst,
+}
+
+impl Piece for CallEnd<'_> {
+    ghost text = { λ piece. codes ")" ++ bundles_text piece.scope.now piece.inst.now.bundle [] };
+
+    fn put_into<W: PieceSink>(&self, out: &mut W) -> Result<(), Failed> {
+        if self.inst.bundle().is_empty() {
+            out.put(b")")
+        } else {
+            put_bundle(self.scope, self.inst, out)
+        }
+    }
+}
+
+#[inline(never)]
+fn put_bundle<W: PieceSink>(scope: &Scope<'_>, inst: &Inst, out: &mut W) -> Result<(), Failed>
+    ensures ok { OnOk result (W.took out.old out.new (codes ")" ++ bundles_text scope.now inst.now.bundle [])) }
+    ensures err { OnErr result (W.failed_within out.old out.new (codes ")" ++ bundles_text scope.now inst.now.bundle [])) }
+{
+    let bundles = Bundles {
+        scope,
+        bundle: inst.bundle(),
+        entries: &[],
+    };
+    put_then(b")", &bundles, out)
 }
 
 // What a call's line begins with, after its result and before its arguments.

@@ -7,8 +7,10 @@ ghost use Rattle.ir_printer.specs.Operands.{value_text, typed_text, label_text, 
 ghost use Rattle.ir_printer.specs.Lines.{arithmetic_text, comparison_text, conversion_text, select_text, phi_text, phi_entry_text, element_text, place_text, step_text, load_text, store_text, jump_text, branch_text, switch_text, case_text, return_text, operator_text, result_front, line_text};
 
 use crate::calls::{Call, Relocate, ResultCall, Statepoint};
-use crate::operands::{Label, NextTyped, NextValue, Typed, Value, label_of, operand_of};
-use crate::puts::{put_both, put_then, put_three};
+use crate::operands::{
+    Label, NextPointer, NextTyped, NextValue, Typed, Value, label_of, operand_of,
+};
+use crate::puts::{put_then, put_three};
 use crate::words::{TypeWord, predicate_bytes};
 use ir_ast::{Elem, Inst, Name, Op, Operand, Pred, Ty};
 use piece_writer::{Bytes, Decimal, Joined, PairPrinter, Pairs, Piece, PieceSink, Printer};
@@ -185,7 +187,7 @@ impl Piece for Element<'_> {
         match self.elem {
             Elem::Int(width) => TypeWord(Ty::Int(width)).put_into(out),
             Elem::Ptr => TypeWord(Ty::Ptr).put_into(out),
-            Elem::Layout(layout) => put_both(b"%", self.scope.layout(layout), out),
+            Elem::Layout(layout) => out.put_both(b"%", self.scope.layout(layout)),
         }
     }
 }
@@ -219,22 +221,40 @@ impl Piece for Step<'_> {
 
     fn put_into<W: PieceSink>(&self, out: &mut W) -> Result<(), Failed> {
         let scope = self.scope;
-        let element = Element {
+        let start = StepStart {
             scope,
             elem: self.elem,
         };
-        let pointer = NextTyped {
+        let pointer = NextPointer {
             scope,
-            ty: Ty::Ptr,
-            operand: operand_of(self.inst, 0),
+            inst: self.inst,
+            place: 0,
         };
         let index = NextTyped {
             scope,
             ty: Ty::Int(self.index_width),
             operand: operand_of(self.inst, 1),
         };
-        let rest = (element, pointer, index, Place(self.place));
-        put_then(b"getelementptr ", &rest, out)
+        (start, pointer, index, Place(self.place)).put_into(out)
+    }
+}
+
+// What a `getelementptr` begins with: its source element too.
+#[derive(Drop)]
+struct StepStart<'a> {
+    scope: &'a Scope<'a>,
+    elem: Elem,
+}
+
+impl Piece for StepStart<'_> {
+    ghost text = { λ piece. codes "getelementptr " ++ element_text piece.scope.now piece.elem };
+
+    fn put_into<W: PieceSink>(&self, out: &mut W) -> Result<(), Failed> {
+        let scope = self.scope;
+        match self.elem {
+            Elem::Layout(layout) => out.put_both(b"getelementptr %", scope.layout(layout)),
+            elem => put_then(b"getelementptr ", &Element { scope, elem }, out),
+        }
     }
 }
 
@@ -248,10 +268,10 @@ impl Piece for Load<'_> {
     ghost text = { λ piece. load_text piece.scope.now piece.inst.now };
 
     fn put_into<W: PieceSink>(&self, out: &mut W) -> Result<(), Failed> {
-        let pointer = NextTyped {
+        let pointer = NextPointer {
             scope: self.scope,
-            ty: Ty::Ptr,
-            operand: operand_of(self.inst, 0),
+            inst: self.inst,
+            place: 0,
         };
         match *self.inst.ty() {
             Ty::Int(64) => put_then(b"load i64", &pointer, out),
@@ -275,10 +295,10 @@ impl Piece for Store<'_> {
             ty: *self.inst.ty(),
             operand: operand_of(self.inst, 0),
         };
-        let pointer = NextTyped {
+        let pointer = NextPointer {
             scope: self.scope,
-            ty: Ty::Ptr,
-            operand: operand_of(self.inst, 1),
+            inst: self.inst,
+            place: 1,
         };
         put_then(b"store ", &(value, pointer), out)
     }

@@ -1,9 +1,10 @@
 //! Operands and labels as they stand in a line.
 ghost use Rattle.std.specs.Prelude.{◌≡◌, ◌++◌, ℕ, List, codes, OnOk, OnErr};
+ghost use Rattle.ir_ast.specs.declared.types.Ty.TheVariants.{Ptr};
 ghost use Rattle.ir_printer.specs.Words.{type_text};
 ghost use Rattle.ir_printer.specs.Operands.{literal_text, value_text, typed_text, parameter_text, argument_text, label_text, operand_at, label_at};
 
-use crate::puts::{put_both, put_then};
+use crate::puts::put_then;
 use crate::words::{Integer, TypeWord};
 use ir_ast::{Inst, Operand, Ty};
 use piece_writer::{Bytes, Decimal, Piece, PieceSink};
@@ -39,10 +40,10 @@ impl Piece for Value<'_> {
 
     fn put_into<W: PieceSink>(&self, out: &mut W) -> Result<(), Failed> {
         match self.operand {
-            Operand::Value(value) => put_both(b"%", self.scope.value(value), out),
+            Operand::Value(value) => out.put_both(b"%", self.scope.value(value)),
             Operand::Int(number) => Literal(self.ty, number).put_into(out),
             Operand::Null => out.put(b"null"),
-            Operand::Fun(func) => put_both(b"@", self.scope.function(func), out),
+            Operand::Fun(func) => out.put_both(b"@", self.scope.function(func)),
         }
     }
 }
@@ -78,8 +79,8 @@ impl Piece for Typed<'_> {
     fn put_into<W: PieceSink>(&self, out: &mut W) -> Result<(), Failed> {
         match self.operand {
             Operand::Value(value) => match self.ty {
-                Ty::Ptr => put_both(b"ptr addrspace(1) %", self.scope.value(value), out),
-                Ty::Int(64) => put_both(b"i64 %", self.scope.value(value), out),
+                Ty::Ptr => out.put_both(b"ptr addrspace(1) %", self.scope.value(value)),
+                Ty::Int(64) => out.put_both(b"i64 %", self.scope.value(value)),
                 _ => self.put_apart(out),
             },
             Operand::Int(number) => match self.ty {
@@ -120,8 +121,8 @@ impl Piece for NextTyped<'_> {
     fn put_into<W: PieceSink>(&self, out: &mut W) -> Result<(), Failed> {
         match self.operand {
             Operand::Value(value) => match self.ty {
-                Ty::Ptr => put_both(b", ptr addrspace(1) %", self.scope.value(value), out),
-                Ty::Int(64) => put_both(b", i64 %", self.scope.value(value), out),
+                Ty::Ptr => out.put_both(b", ptr addrspace(1) %", self.scope.value(value)),
+                Ty::Int(64) => out.put_both(b", i64 %", self.scope.value(value)),
                 _ => self.put_apart(out),
             },
             Operand::Int(number) => match self.ty {
@@ -130,6 +131,47 @@ impl Piece for NextTyped<'_> {
                 _ => self.put_apart(out),
             },
             _ => self.put_apart(out),
+        }
+    }
+}
+
+/// The operand with this place in a line, which is a pointer, after a comma and its type.
+#[derive(Drop)]
+pub(crate) struct NextPointer<'a> {
+    pub scope: &'a Scope<'a>,
+    pub inst: &'a Inst,
+    pub place: usize,
+}
+
+impl Piece for NextPointer<'_> {
+    ghost text = { λ piece. codes ", " ++ typed_text piece.scope.now Ptr (operand_at piece.inst.now piece.place) };
+
+    #[inline(always)]
+    fn put_into<W: PieceSink>(&self, out: &mut W) -> Result<(), Failed> {
+        put_next_pointer(self.scope, self.inst, self.place, out)
+    }
+}
+
+// Takes what it needs apart, so that nothing is stored for it.
+#[inline(never)]
+fn put_next_pointer<W: PieceSink>(
+    scope: &Scope<'_>,
+    inst: &Inst,
+    place: usize,
+    out: &mut W,
+) -> Result<(), Failed>
+    ensures ok { OnOk result (W.took out.old out.new (codes ", " ++ typed_text scope.now Ptr (operand_at inst.now place))) }
+    ensures err { OnErr result (W.failed_within out.old out.new (codes ", " ++ typed_text scope.now Ptr (operand_at inst.now place))) }
+{
+    match operand_of(inst, place) {
+        Operand::Value(value) => out.put_both(b", ptr addrspace(1) %", scope.value(value)),
+        operand => {
+            let typed = NextTyped {
+                scope,
+                ty: Ty::Ptr,
+                operand,
+            };
+            typed.put_apart(out)
         }
     }
 }
@@ -147,7 +189,7 @@ impl Piece for NextValue<'_> {
 
     fn put_into<W: PieceSink>(&self, out: &mut W) -> Result<(), Failed> {
         match self.operand {
-            Operand::Value(value) => put_both(b", %", self.scope.value(value), out),
+            Operand::Value(value) => out.put_both(b", %", self.scope.value(value)),
             operand => {
                 let value = Value {
                     scope: self.scope,
@@ -232,7 +274,7 @@ impl Piece for Label<'_> {
     ghost text = { λ piece. label_text piece.scope.now piece.block };
 
     fn put_into<W: PieceSink>(&self, out: &mut W) -> Result<(), Failed> {
-        put_both(b"%", self.scope.block(self.block), out)
+        out.put_both(b"%", self.scope.block(self.block))
     }
 }
 

@@ -1,4 +1,4 @@
-//! Puts of two texts. They are written out where they stand, so that constant bytes are copied at
+//! Puts of several texts. They are written out where they stand, so that constant bytes are copied at
 //! their own size.
 ghost use Rattle.std.specs.Prelude.{◌++◌, OnOk, OnErr};
 
@@ -19,16 +19,6 @@ pub(crate) fn put_then<P: Piece, W: PieceSink>(
     rest.put_into(out)
 }
 
-/// Puts bytes, and other bytes after them.
-#[inline(always)]
-pub(crate) fn put_both<W: PieceSink>(front: &[u8], rest: &[u8], out: &mut W) -> Result<(), Failed>
-    ensures ok { OnOk result (W.took out.old out.new (front.now ++ rest.now)) }
-    ensures err { OnErr result (W.failed_within out.old out.new (front.now ++ rest.now)) }
-{
-    out.put(front)?;
-    out.put(rest)
-}
-
 /// Puts three texts of bytes, one after the other.
 #[inline(always)]
 pub(crate) fn put_three<W: PieceSink>(
@@ -41,5 +31,5 @@ pub(crate) fn put_three<W: PieceSink>(
     ensures err { OnErr result (W.failed_within out.old out.new (front.now ++ (middle.now ++ end.now))) }
 {
     out.put(front)?;
-    put_both(middle, end, out)
+    out.put_both(middle, end)
 }

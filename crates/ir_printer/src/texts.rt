@@ -15,7 +15,7 @@ use crate::runs::Run;
 use crate::words::{TypeWord, strategy};
 use ir_ast::{Arg, Block, Cell, Func, Layout, Module};
 use piece_writer::{Bytes, Each, Joined, Led, Piece, PieceSink, Printer, put_text};
-use print_tables::{Called, Scope, Waypoints, is_short};
+use print_tables::{Called, Scope, Waypoints, count_results};
 use tool_io::{Failed, Sink};
 
 // Puts the type of a field.
@@ -127,11 +127,55 @@ impl Printer<Func> for Functions<'_> {
     ghost element_text = { λ printer func. function_text printer.layouts.now (map content_of printer.funcs.now) func.content };
 
     fn put_element<W: PieceSink>(&self, func: &Func, out: &mut W) -> Result<(), Failed> {
-        if is_short(func) {
+        let results = count_results(func);
+        if results < FEW {
             let scope = Scope::of_short(self.layouts, self.funcs, func);
             return put_function(&scope, out);
         }
-        let waypoints = Waypoints::of(func);
+        if results < SOME {
+            return self.put_by_some(func, results, out);
+        }
+        self.put_by_many(func, results, out)
+    }
+}
+
+// A function with fewer results is walked over from its start.
+const FEW: usize = 32;
+
+// How many waypoints a function with fewer results than these has at most.
+const SOME: usize = 512;
+
+// How many waypoints a function has at most.
+const MANY: usize = 4_096;
+
+// Room for waypoints is cleared in these functions alone.
+impl Functions<'_> {
+    #[inline(never)]
+    fn put_by_some<W: PieceSink>(
+        &self,
+        func: &Func,
+        results: usize,
+        out: &mut W,
+    ) -> Result<(), Failed>
+        ensures ok { OnOk result (W.took out.old out.new (function_text self.now.layouts.now (map content_of self.now.funcs.now) func.now.content)) }
+        ensures err { OnErr result (W.failed_within out.old out.new (function_text self.now.layouts.now (map content_of self.now.funcs.now) func.now.content)) }
+    {
+        let waypoints = Waypoints::<SOME>::of(func, results);
+        let scope = Scope::of(self.layouts, self.funcs, func, &waypoints);
+        put_function(&scope, out)
+    }
+
+    #[inline(never)]
+    fn put_by_many<W: PieceSink>(
+        &self,
+        func: &Func,
+        results: usize,
+        out: &mut W,
+    ) -> Result<(), Failed>
+        ensures ok { OnOk result (W.took out.old out.new (function_text self.now.layouts.now (map content_of self.now.funcs.now) func.now.content)) }
+        ensures err { OnErr result (W.failed_within out.old out.new (function_text self.now.layouts.now (map content_of self.now.funcs.now) func.now.content)) }
+    {
+        let waypoints = Waypoints::<MANY>::of(func, results);
         let scope = Scope::of(self.layouts, self.funcs, func, &waypoints);
         put_function(&scope, out)
     }

@@ -8,7 +8,7 @@ pub returns-in-Int-eq64-clause-ok : goal.returns-in-Int-eq64-clause-ok
 returns-in-Int-eq64-clause-ok g c =
     let same : c.in-Int-eq64.field-0 ≡ 64 = grind (arith, nat_tests, c.in-Int-eq64.field-0-test) in
     let ty = c.args.self.now.ty in
-    subst (λ (text : List ℕ). OnOk c.put_both-in-Int-eq64.result (g.W.PieceSink.took c.args.out.now c.put_both-in-Int-eq64.new.out text))
+    subst (λ (text : List ℕ). OnOk c.put_both-in-Int-eq64.result (g.W.PieceSink.took c.args.out.now c.put_both-in-Int-eq64.new.self text))
     (sym (typed_text-named c.args.self.now.scope.now ty c.args.self.now.operand c.in-Value.value (codes "i64") c.value-in-Int-eq64.result.now
     (type_text-i64 ty c.in-Int-eq64.field-0 c.in-Int-eq64.is same) c.in-Value.is c.value-in-Int-eq64.ensures))
     c.put_both-in-Int-eq64.ensures.ok
@@ -17,7 +17,7 @@ pub returns-in-Int-eq64-clause-err : goal.returns-in-Int-eq64-clause-err
 returns-in-Int-eq64-clause-err g c =
     let same : c.in-Int-eq64.field-0 ≡ 64 = grind (arith, nat_tests, c.in-Int-eq64.field-0-test) in
     let ty = c.args.self.now.ty in
-    subst (λ (text : List ℕ). OnErr c.put_both-in-Int-eq64.result (g.W.PieceSink.failed_within c.args.out.now c.put_both-in-Int-eq64.new.out text))
+    subst (λ (text : List ℕ). OnErr c.put_both-in-Int-eq64.result (g.W.PieceSink.failed_within c.args.out.now c.put_both-in-Int-eq64.new.self text))
     (sym (typed_text-named c.args.self.now.scope.now ty c.args.self.now.operand c.in-Value.value (codes "i64") c.value-in-Int-eq64.result.now
     (type_text-i64 ty c.in-Int-eq64.field-0 c.in-Int-eq64.is same) c.in-Value.is c.value-in-Int-eq64.ensures))
     c.put_both-in-Int-eq64.ensures.err
