@@ -141,10 +141,19 @@ fn fill_line(alloc: Global, inst: &mut Inst, writing: &mut Writing<'_>) -> Resul
 {
     if stands(inst) {
         fill_standing(inst, writing);
-    } else {
-        let old = mem::replace(inst, no_line(alloc));
-        *inst = plain(alloc, old, &mut writing.body, &mut writing.entries)?;
+        return Ok(());
     }
+    fill_other(alloc, inst, writing)
+}
+
+// The rarer part of `fill_line`.
+#[inline(never)]
+fn fill_other(alloc: Global, inst: &mut Inst, writing: &mut Writing<'_>) -> Result<(), Memory>
+    ensures line { OnOk result (inst.new ≡ plain_written writing.old.body writing.old.entries inst.old) }
+    ensures writing { OnOk result (writing.new ≡ kept_after writing.old inst.old) }
+{
+    let old = mem::replace(inst, no_line(alloc));
+    *inst = plain(alloc, old, &mut writing.body, &mut writing.entries)?;
     Ok(())
 }
 

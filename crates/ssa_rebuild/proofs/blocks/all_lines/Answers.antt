@@ -10,9 +10,9 @@ fill_all-requires c = ap (list_any (λ (inst : Instruction). is_call inst.op)) (
 pub returns-then-are_kept-clause-lines : goal.returns-then-are_kept-clause-lines
 returns-then-are_kept-clause-lines c =
     let none = c.are_kept.ensures.joined c.if-are_kept.true in
-    rw none (c.fill_all.ensures.lines c.args.groups.now)
+    rw none (c.in_ok-fill_all.ensures.lines c.args.groups.now)
 
 pub returns-then-are_kept-clause-writing : goal.returns-then-are_kept-clause-writing
 returns-then-are_kept-clause-writing c =
     let none = c.are_kept.ensures.joined c.if-are_kept.true in
-    rw none (c.fill_all.ensures.writing c.args.groups.now)
+    rw none (c.in_ok-fill_all.ensures.writing c.args.groups.now)
