@@ -1,4 +1,4 @@
-use Rattle.std.proofs.Common.{◌≡◌, List, ℕ, ◌++◌, codes, OnOk, OnErr, refl, sym, subst, ◌∙◌}
+use Rattle.std.proofs.Common.{List, ℕ, ◌++◌, codes, OnOk, OnErr, refl, sym, subst, ◌∙◌}
 use Rattle.ir_ast.specs.declared.types.Ty.TheVariants.{Ptr}
 use Rattle.ir_printer.specs.Operands.{operand_at}
 use Rattle.ir_printer.proofs.OperandLemmas.{typed_text-named}
