@@ -38,10 +38,18 @@ fn put_line(alloc: Global, row: &[u32], inst: &mut Inst) -> Result<(), Memory>
 {
     if inst.bundle().is_empty() {
         put_operands(row, inst);
-    } else {
-        let old = mem::replace(inst, no_line(alloc));
-        *inst = with_bundle(alloc, row, old)?;
+        return Ok(());
     }
+    put_with_bundle(alloc, row, inst)
+}
+
+// The rarer part of `put_line`.
+#[inline(never)]
+fn put_with_bundle(alloc: Global, row: &[u32], inst: &mut Inst) -> Result<(), Memory>
+    ensures { OnOk result (inst.new ≡ put_line row.now inst.old) }
+{
+    let old = mem::replace(inst, no_line(alloc));
+    *inst = with_bundle(alloc, row, old)?;
     Ok(())
 }
 
@@ -62,7 +70,6 @@ fn no_line(alloc: Global) -> Inst {
     )
 }
 
-#[inline(never)]
 fn with_bundle(alloc: Global, row: &[u32], inst: Inst) -> Result<Inst, Memory>
     ensures { IfOk result (λ line. line ≡ put_line row.now inst) }
 {
