@@ -23,10 +23,18 @@ pub(crate) fn renumber_inst(alloc: Global, tables: &Tables, inst: &mut Inst) -> 
 {
     if inst.bundle().is_empty() {
         renumber_operands(tables, inst);
-    } else {
-        let old = mem::replace(inst, no_line(alloc));
-        *inst = kept(alloc, tables, old)?;
+        return Ok(());
     }
+    renumber_with_bundle(alloc, tables, inst)
+}
+
+// The rarer part of `renumber_inst`.
+#[inline(never)]
+fn renumber_with_bundle(alloc: Global, tables: &Tables, inst: &mut Inst) -> Result<(), Memory>
+    ensures { OnOk result (inst.new ≡ kept_line (tabled tables.now) inst.old) }
+{
+    let old = mem::replace(inst, no_line(alloc));
+    *inst = kept(alloc, tables, old)?;
     Ok(())
 }
 
@@ -48,7 +56,6 @@ fn no_line(alloc: Global) -> Inst {
 }
 
 // The instruction itself, over the new numbers.
-#[inline(never)]
 fn kept(alloc: Global, tables: &Tables, inst: Inst) -> Result<Inst, Memory>
     ensures { IfOk result (λ line. line ≡ kept_line (tabled tables.now) inst) }
 {
