@@ -3,3 +3,4 @@ pub mod OriginLemmas
 pub mod ShapeLemmas
 pub mod DefinitionLemmas
 pub mod TableLemmas
+pub mod UnchangedLemmas

@@ -91,7 +91,7 @@ either_is is first second = rw (← first, ← second) is
 abbrev entries : List ℕ → List ℕ → List Operand → ℕ → List Operand
 entries inserted numbers bases value = inserted_base inserted numbers value ++ slice_index_or bases value Null ∷ []
 
-range_more : (n : ℕ) → range_with_len 0 (n + 1) ≡ range_with_len 0 n ++ n ∷ []
+pub range_more : (n : ℕ) → range_with_len 0 (n + 1) ≡ range_with_len 0 n ++ n ∷ []
 range_more n =
     sym (map_same (range_with_len 0 (n + 1))) ∙ map-range_with_len_more (λ (k : ℕ). k) 0 n n (omega arith) ∙ ap (λ (ks : List ℕ). ks ++ n ∷ []) (map_same (range_with_len 0 n))
   where
@@ -114,7 +114,7 @@ table_more inserted numbers bases i d old mid new below before adds pushed =
 
 -- ---- tables by the definitions
 
-map_range_same : {X : Type 0} (f g : ℕ → X) (n : ℕ) → ((value : ℕ) → value < n → f value ≡ g value) → map f (range_with_len 0 n) ≡ map g (range_with_len 0 n)
+pub map_range_same : {X : Type 0} (f g : ℕ → X) (n : ℕ) → ((value : ℕ) → value < n → f value ≡ g value) → map f (range_with_len 0 n) ≡ map g (range_with_len 0 n)
 map_range_same f g zero same = refl
 map_range_same {X} f g (suc n) same =
     let e : suc n ≡ n + 1 = omega arith in
@@ -221,7 +221,7 @@ step_known func known (Int word) before is = absurd (none-some before is)
 step_known func known Null before is = absurd (none-some before is)
 step_known func known (Fun other) before is = absurd (none-some before is)
 
-origin_known : (func : Function) → LocalNamesAreKnown func → (bound : ℕ) (operand : Operand) → IsKnown (length (definitions_of func)) operand
+pub origin_known : (func : Function) → LocalNamesAreKnown func → (bound : ℕ) (operand : Operand) → IsKnown (length (definitions_of func)) operand
     → IsKnown (length (definitions_of func)) (origin_by (stepped_from func) bound operand)
 origin_known func known zero operand is = tt
 origin_known func known (suc bound) operand is = by (stepped_from func operand) refl (origin_known func known bound)
@@ -243,7 +243,7 @@ stepped_same func (Int word) = refl
 stepped_same func Null = refl
 stepped_same func (Fun other) = refl
 
-origin_same : (func : Function) (operand : Operand) → origin_in (map kind_of (definitions_of func)) operand ≡ origin func operand
+pub origin_same : (func : Function) (operand : Operand) → origin_in (map kind_of (definitions_of func)) operand ≡ origin func operand
 origin_same func operand =
     ap (λ k. origin_by (stepped_in (map kind_of (definitions_of func))) (suc k) operand) (length-map (definitions_of func) kind_of)
     ∙ origin_by-same (stepped_in (map kind_of (definitions_of func))) (stepped_from func) (stepped_same func) (suc (length (definitions_of func))) operand

@@ -1,5 +1,5 @@
 -- What the tables have, as a function of the function, and what is read of them.
-use Rattle.std.specs.Prelude.{ℕ, suc, ◌+◌, Bool, false, nat_lt, if◌then◌else◌, List, [], ◌∷◌, ◌++◌, length, map, take, count_by, slice_index, slice_index_or}
+use Rattle.std.specs.Prelude.{ℕ, suc, ◌+◌, Bool, false, nat_lt, if◌then◌else◌, List, [], ◌∷◌, ◌++◌, length, map, take, count_by, slice_index, slice_index_or, replicate}
 use Rattle.std.specs.List.{flat_map, range_with_len}
 use Rattle.ir_ast.specs.declared.ops.Operand.{Operand}
 use Rattle.ir_ast.specs.declared.ops.Operand.TheVariants.{Value, Null}
@@ -33,6 +33,17 @@ tables_of func = record {
   inserted = map (inserted_number func (derived_marks func)) (values_of func);
   numbers = map (new_number func (derived_marks func)) (values_of func);
   bases = map (λ value. base_of func (derived_marks func) (named value)) (values_of func);
+}
+
+-- the tables where no line is inserted: the bases are the origins
+abbrev pub unchanged : List Bool → List Operand → ValueTables
+unchanged derived origins = record {
+  derived = derived;
+  base_ranks = replicate (length derived) 0;
+  same_ranks = replicate (length derived) 0;
+  inserted = range_with_len 0 (length derived);
+  numbers = range_with_len 0 (length derived);
+  bases = origins;
 }
 
 -- ---- what is read

@@ -1,12 +1,12 @@
-ghost use Rattle.std.specs.Prelude.{◌≡◌, ◌<◌, ◌^◌, ◌++◌, ◌∷◌, [], ◌||◌, false, length, map, slice_index, slice_index_or, IfOk};
+ghost use Rattle.std.specs.Prelude.{◌≡◌, ◌<◌, ◌^◌, ℕ, ◌++◌, ◌∷◌, [], ◌||◌, true, false, length, map, Some, slice_get, slice_index, slice_index_or, IfOk};
 ghost use Rattle.std.specs.List.{All, range_with_len};
 ghost use Rattle.ir_ast.specs.Funcs.{instructions_of};
 ghost use Rattle.ir_ast.specs.Lines.{IsLine};
 ghost use Rattle.ir_ast.specs.Faults.UnknownName.{LocalNamesAreKnown};
-ghost use Rattle.base_tables.specs.Kinds.{any_marked, kind_merged, kind_negated};
+ghost use Rattle.base_tables.specs.Kinds.{Kind, any_marked, kind_merged, kind_negated};
 ghost use Rattle.base_tables.specs.Seen.{seen_shape};
-ghost use Rattle.base_tables.specs.Tables.{own_base_in, inserted_in, number_in, inserted_base, tables_of, now_by, base_by, table_in, table_of};
-ghost use Rattle.base_tables.specs.Flags.{AreFlags};
+ghost use Rattle.base_tables.specs.Tables.{own_base_in, inserted_in, number_in, inserted_base, tables_of, now_by, base_by, table_in, table_of, unchanged};
+ghost use Rattle.base_tables.specs.Flags.{AreFlags, kind_inserted};
 
 use crate::counts::counts_before;
 use crate::derived::derived;
@@ -71,6 +71,9 @@ impl Tables {
         let shapes = shapes(alloc, func)?;
         let derived = derived(alloc, shapes.as_slice())?;
         let origins = origins(alloc, shapes.as_slice())?;
+        if inserts_nothing(derived.as_slice(), shapes.as_slice()) {
+            return unchanged(alloc, derived, origins);
+        }
         let flags = flags_of(alloc, derived.as_slice(), shapes.as_slice())?;
         let base_ranks = counts_before(alloc, flags.merged.as_slice())?;
         let same_ranks = counts_before(alloc, flags.negated.as_slice())?;
@@ -157,6 +160,59 @@ impl Tables {
         )?;
         Ok(BaseTable::of(bases))
     }
+}
+
+// Whether no line is inserted: no phi, select or `icmp ne` uses a marked value.
+fn inserts_nothing(marks: &[bool], shapes: &[Shape<'_>]) -> bool
+    ensures { result ≡ true → (value : ℕ) (kind : Kind) → slice_get (map seen_shape shapes.now) value ≡ Some kind → kind_inserted marks.now kind ≡ false }
+{
+    for shape in shapes {
+        if is_inserted(marks, shape) {
+            return false;
+        }
+    }
+    true
+}
+
+fn is_inserted(marks: &[bool], shape: &Shape<'_>) -> bool
+    ensures { result ≡ kind_inserted marks.now (seen_shape shape.now) }
+{
+    match shape {
+        Shape::Merge(operands) | Shape::Unequal(operands) => any_marked(marks, operands),
+        Shape::Plain | Shape::Step(_) => false,
+    }
+}
+
+// The tables where no line is inserted: each value keeps its number.
+fn unchanged(alloc: Global, derived: Vec<bool>, origins: Vec<Operand>) -> Result<Tables, Memory>
+    requires { length derived.items < 2 ^ 32 }
+    ensures { IfOk result (λ tables. tables ≡ unchanged derived.items origins.items) }
+{
+    let count = derived.len();
+    let base_ranks = vec![in alloc; 0; count]?;
+    let same_ranks = Vec::from_slice(alloc, base_ranks.as_slice())?;
+    let inserted = rising(alloc, count)?;
+    let numbers = Vec::from_slice(alloc, inserted.as_slice())?;
+    Ok(Tables {
+        derived,
+        base_ranks,
+        same_ranks,
+        inserted,
+        numbers,
+        bases: origins,
+    })
+}
+
+// The numbers from 0 on.
+fn rising(alloc: Global, count: usize) -> Result<Vec<u32>, Memory>
+    requires { count < 2 ^ 32 }
+    ensures { IfOk result (λ numbers. numbers.items ≡ range_with_len 0 count) }
+{
+    let mut numbers = Vec::with_capacity(alloc, count)?;
+    for number in 0..count {
+        numbers.push_reserved(number as u32);
+    }
+    Ok(numbers)
 }
 
 // The bases, and before each that of the line which is inserted before its value.
