@@ -69,7 +69,7 @@ fn step_marks(alloc: Global, shapes: &[Shape<'_>]) -> Result<Vec<bool>, Memory>
 {
     let mut marks = Vec::with_capacity(alloc, shapes.len())?;
     for shape in shapes {
-        marks.push(is_step(shape))?;
+        marks.push_reserved(is_step(shape));
     }
     Ok(marks)
 }

@@ -32,7 +32,7 @@ fn in_order(alloc: Global, shapes: &[Shape<'_>]) -> Result<Option<Vec<Operand>>,
     for value in 0..shapes.len() {
         match origin_after(shapes, all.as_slice(), value) {
             None => return Ok(None),
-            Some(origin) => all.push(origin)?,
+            Some(origin) => all.push_reserved(origin),
         }
     }
     Ok(Some(all))

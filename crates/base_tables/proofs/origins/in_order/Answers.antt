@@ -11,7 +11,11 @@ use Rattle.base_tables.proofs.origins.in_order.Goals as goal
 pub loop-value-preserved : goal.loop-value-preserved
 loop-value-preserved c =
     let f : ℕ → Operand = λ value. origin_in (map seen_shape c.args.shapes.now) (named value) in
-    c.in_ok-push-in-Some.ensures.items
-    ∙ ap (λ (xs : List Operand). xs ++ c.in-Some.origin ∷ []) c.loop-value.invariant
-    ∙ ap (λ (o : Operand). map f (range_with_len 0 c.loop-value.value) ++ o ∷ []) c.in-Some.ensures
-    ∙ sym (map-range_with_len_more f 0 c.loop-value.value c.loop-value.value (omega arith))
+    record {
+      all = c.push_reserved.ensures.items
+          ∙ ap (λ (xs : List Operand). xs ++ c.in-Some.origin ∷ []) c.loop-value.invariant.all
+          ∙ ap (λ (o : Operand). map f (range_with_len 0 c.loop-value.value) ++ o ∷ []) c.in-Some.ensures
+          ∙ sym (map-range_with_len_more f 0 c.loop-value.value c.loop-value.value (omega arith));
+      len = omega (arith, c.push_reserved.ensures.len, c.loop-value.invariant.len);
+      room = omega (arith, c.push_reserved.ensures.capacity, c.loop-value.invariant.room);
+    }
