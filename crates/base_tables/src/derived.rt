@@ -45,25 +45,30 @@ impl Edges for Sources {
 pub(crate) fn derived(alloc: Global, shapes: &[Shape<'_>]) -> Result<Vec<bool>, Memory>
     ensures { IfOk result (λ marks. AreMarks (map seen_shape shapes.now) marks.items) }
 {
-    let marks = spread(alloc, shapes)?;
+    let mut marks = step_marks(alloc, shapes)?;
+    if is_closed(shapes, marks.as_slice()) {
+        return Ok(marks);
+    }
+    spread(shapes, &mut marks);
     if is_closed(shapes, marks.as_slice()) {
         return Ok(marks);
     }
     searched(alloc, shapes)
 }
 
-// Marks on the steps, and in the order of the values on each phi and select that uses a marked one.
-fn spread(alloc: Global, shapes: &[Shape<'_>]) -> Result<Vec<bool>, Memory>
-    ensures whole { IfOk result (λ marks. length marks.items ≡ length shapes.now) }
-    ensures sound { IfOk result (λ marks. (value : ℕ) → Marked marks.items value → DerivedIn (map seen_shape shapes.now) value) }
+// In the order of the values, a mark on each phi and select that uses a marked one.
+fn spread(shapes: &[Shape<'_>], marks: &mut Vec<bool>)
+    requires whole { length marks.old.items ≡ length shapes.now }
+    requires sound { (value : ℕ) → Marked marks.old.items value → DerivedIn (map seen_shape shapes.now) value }
+    ensures whole { length marks.new.items ≡ length shapes.now }
+    ensures sound { (value : ℕ) → Marked marks.new.items value → DerivedIn (map seen_shape shapes.now) value }
 {
-    let mut marks = step_marks(alloc, shapes)?;
     for (value, shape) in shapes.iter().enumerate() {
-        mark_merge(&mut marks, value, shape);
+        mark_merge(marks, value, shape);
     }
-    Ok(marks)
 }
 
+// Marks on the steps.
 fn step_marks(alloc: Global, shapes: &[Shape<'_>]) -> Result<Vec<bool>, Memory>
     ensures { IfOk result (λ marks. marks.items ≡ map kind_steps (map seen_shape shapes.now)) }
 {
@@ -93,7 +98,7 @@ fn mark_merge(marks: &mut Vec<bool>, value: usize, shape: &Shape<'_>)
     }
 }
 
-// Whether marks that were spread in order are those of the derived values.
+// Whether marks that only derived values have are on all of them.
 fn is_closed(shapes: &[Shape<'_>], marks: &[bool]) -> bool
     ensures { result ≡ true → (value : ℕ) (kind : Kind) → slice_get (map seen_shape shapes.now) value ≡ Some kind → closed_at marks.now value kind ≡ true }
 {
