@@ -119,7 +119,24 @@ pub(crate) fn put_operands(
 }
 
 /// Puts in what the operands of a bundle use.
+#[inline(always)]
 pub(crate) fn put_bundle(
+    marks: &[bool],
+    bases: &[Operand],
+    bundle: &[(Ty, Operand)],
+    set: &mut PointerSet,
+) -> Result<(), Memory>
+    ensures { IfOk result (λ _. Changed marks.now set.old set.new (λ v old. list_any (λ entry. uses marks.now bases.now v entry.1) bundle.now || old)) }
+{
+    if !bundle.is_empty() {
+        put_entries(marks, bases, bundle, set)?;
+    }
+    Ok(())
+}
+
+// The rarer part of `put_bundle`: most lines have none.
+#[inline(never)]
+fn put_entries(
     marks: &[bool],
     bases: &[Operand],
     bundle: &[(Ty, Operand)],
@@ -150,6 +167,7 @@ fn put_own(
 }
 
 /// Goes back over a line: what it gives isn't live before it, and what it uses is.
+#[inline(always)]
 pub(crate) fn go_back(
     marks: &[bool],
     bases: &[Operand],

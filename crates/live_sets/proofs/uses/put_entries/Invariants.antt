@@ -2,7 +2,7 @@ use Rattle.std.proofs.Common.{take, ◌||◌}
 use Rattle.std.specs.List.{list_any}
 use Rattle.live_sets.specs.Sets.{Changed}
 use Rattle.live_sets.specs.Uses.{uses}
-use Rattle.live_sets.proofs.uses.put_bundle.Given as goal
+use Rattle.live_sets.proofs.uses.put_entries.Given as goal
 
 abbrev pub invariant-loop-operand : goal.invariant-loop-operand
 invariant-loop-operand l =
