@@ -1,5 +1,5 @@
 -- Sets of pointers, a change at a time.
-use Rattle.std.proofs.Common.{◌≡◌, ℕ, ◌+◌, nat_lt, Bool, true, false, not, eqb, cond, if◌then◌else◌, ◌&&◌, ◌||◌, List, [], ◌∷◌, ◌++◌, length, map, filter, refl, ap, sym, arith, inl, inr, ◌∙◌, append_assoc, subst}
+use Rattle.std.proofs.Common.{◌≡◌, ℕ, ◌+◌, nat_lt, Bool, true, false, not, eqb, cond, if◌then◌else◌, ◌&&◌, ◌||◌, List, [], ◌∷◌, ◌++◌, length, map, filter, refl, ap, sym, arith, inl, inr, ◌∙◌, append_assoc}
 use Rattle.std.specs.List.{list_any, range_with_len}
 use Rattle.std.specs.List.Sorted.{IsStrictlySortedBy, IsStrictlyIncreasing}
 use Rattle.std.specs.Ordering.{nat_cmp, is_eq}
@@ -13,15 +13,12 @@ use Rattle.std.proofs.lemmas.List.Kept.{IsStrictlyIncreasing-filter}
 use Rattle.std.proofs.lemmas.Map.Keys.{sorted_from_strictly_increasing}
 use Rattle.std.proofs.lemmas.Map.Lookups.{btree_set_from_contains, exact_unsigned}
 use Rattle.sp_ids.specs.declared.ids.ValueId.{ValueId}
-use Rattle.ir_ast.specs.declared.ops.Operand.{Operand}
 use Rattle.ir_ast.specs.Funcs.{Function}
 use Rattle.ir_ast.specs.Types.{is_pointer}
 use Rattle.ir_ast.specs.Values.{value_types}
 use Rattle.rewriting_forms.specs.Numbered.{among, pointers}
 use Rattle.rewriting_laws.proofs.NameLemmas.{among_filter, filter_among}
 use Rattle.live_sets.specs.Values.{has_mark, valued}
-use Rattle.live_sets.specs.declared.uses.Uses.{Uses}
-use Rattle.live_sets.specs.Uses.{names, uses, uses_of}
 use Rattle.live_sets.specs.Sets.{is_in, AreMarked, Changed}
 use Rattle.live_sets.proofs.UseLemmas.{same_test, among_mark}
 
@@ -81,26 +78,6 @@ take_one marks k old new are = record {
     | inr other ↦ were v (sym (are v ∙ ap (λ (t : Bool). if t then false else is_in old v) (number_at k v ∙ other)) ∙ is)
   ];
 }
-
-pub put_both : (marks : List Bool) (f g : ℕ → Bool) (old mid new : BTreeSet ℕ) → Changed marks old mid (λ (v : ℕ) (old : Bool). if f v then true else old)
-    → Changed marks mid new (λ (v : ℕ) (old : Bool). if g v then true else old) → Changed marks old new (λ (v : ℕ) (old : Bool). (f v || g v) || old)
-put_both marks f g old mid new first second = record {
-  each = λ v pointer. second.each v pointer ∙ ap (λ (t : Bool). if g v then true else t) (first.each v pointer) ∙ either (f v) (g v) (is_in old v);
-  marked = λ were. second.marked (first.marked were);
-}
-  where
-    either : (a b t : Bool) → (if b then true else (if a then true else t)) ≡ ((a || b) || t)
-    either true true t = refl
-    either true false t = refl
-    either false true t = refl
-    either false false t = refl
-
-pub put_uses : (marks : List Bool) (table : List Operand) (operand : Operand) (used : Uses) (old mid new : BTreeSet ℕ) → used ≡ uses_of marks table operand
-    → Changed marks old mid (λ (v : ℕ) (old : Bool). if names used.itself v then true else old) → Changed marks mid new (λ (v : ℕ) (old : Bool). if names used.base v then true else old)
-    → Changed marks old new (λ (v : ℕ) (old : Bool). uses marks table v operand || old)
-put_uses marks table operand used old mid new are first second =
-    subst (λ (u : Uses). Changed marks old new (λ (v : ℕ) (old : Bool). (names u.itself v || names u.base v) || old)) are
-    (put_both marks (names used.itself) (names used.base) old mid new first second)
 
 -- ---- a line
 

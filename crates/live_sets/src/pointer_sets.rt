@@ -65,16 +65,24 @@ impl PointerSet {
     pub(crate) fn put(&mut self, value: ValueId) -> Result<(), Memory>
         ensures { IfOk result (λ _. Puts value.0 self.old self.new) }
     {
-        let place = value.0 as usize;
-        if place < self.stamps.len() && self.stamps[place] == self.stamp {
+        if self.is_stamped(value) {
             return Ok(());
         }
         self.put_in(value)
     }
 
-    // The rarer part of `put`, for a value without the stamp.
+    /// Whether a value bears the stamp, so that it is in.
+    #[inline(always)]
+    pub(crate) fn is_stamped(&self, value: ValueId) -> bool
+        ensures { result ≡ true → is_in self.now value.0 ≡ true }
+    {
+        let place = value.0 as usize;
+        place < self.stamps.len() && self.stamps[place] == self.stamp
+    }
+
+    /// Puts in a value without the stamp, the rarer part of `put`.
     #[inline(never)]
-    fn put_in(&mut self, value: ValueId) -> Result<(), Memory>
+    pub(crate) fn put_in(&mut self, value: ValueId) -> Result<(), Memory>
         ensures { IfOk result (λ _. Puts value.0 self.old self.new) }
     {
         let place = value.0 as usize;

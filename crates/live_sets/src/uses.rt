@@ -1,9 +1,11 @@
 ghost use Rattle.std.specs.Prelude.{◌≡◌, ◌||◌, ◌&&◌, not, true, false, if◌then◌else◌, IfOk};
 ghost use Rattle.std.specs.List.{list_any};
+ghost use Rattle.ir_ast.specs.declared.ops.Operand.TheVariants.{Value};
 ghost use Rattle.ir_ast.specs.Faults.PhiEdges.{is_phi};
+ghost use Rattle.rewriting_forms.specs.Numbered.{base_at};
 ghost use Rattle.live_sets.specs.Values.{has_mark};
 ghost use Rattle.live_sets.specs.Sets.{Changed};
-ghost use Rattle.live_sets.specs.Uses.{value_named, base_named, uses_of, names, uses, line_uses};
+ghost use Rattle.live_sets.specs.Uses.{value_named, other_than, base_named, uses_of, names, uses, line_uses};
 
 use crate::pointer_sets::PointerSet;
 use ir_ast::{Inst, Op, Operand, Ty};
@@ -41,6 +43,14 @@ fn base_in(marks: &[bool], bases: &[Operand], value: Option<ValueId>) -> Option<
     if !has_mark(marks, value) {
         return None;
     }
+    base_of(bases, value)
+}
+
+// The base of a pointer that isn't its own base.
+#[inline(always)]
+fn base_of(bases: &[Operand], value: ValueId) -> Option<ValueId>
+    ensures { result ≡ other_than value (value_named (base_at bases.now value.0)) }
+{
     let base = value_in(
         bases
             .get(value.0 as usize)
@@ -63,13 +73,14 @@ pub(crate) fn put(
     ensures { IfOk result (λ _. Changed marks.now set.old set.new (λ v old. if names value v then true else old)) }
 {
     if let Some(value) = value {
-        if has_mark(marks, value) {
-            set.put(value)?;
+        if !set.is_stamped(value) && has_mark(marks, value) {
+            set.put_in(value)?;
         }
     }
     Ok(())
 }
 
+#[inline(always)]
 fn has_mark(marks: &[bool], value: ValueId) -> bool
     ensures { result ≡ has_mark marks.now value.0 }
 {
@@ -97,9 +108,27 @@ pub(crate) fn put_operand(
 ) -> Result<(), Memory>
     ensures { IfOk result (λ _. Changed marks.now set.old set.new (λ v old. uses marks.now bases.now v operand || old)) }
 {
-    let used = uses_of(marks, bases, operand);
-    put(marks, used.itself, set)?;
-    put(marks, used.base, set)?;
+    if let Operand::Value(value) = operand {
+        if has_mark(marks, value) {
+            put_pointer(marks, bases, value, set)?;
+        }
+    }
+    Ok(())
+}
+
+// Puts in a pointer and its base.
+#[inline(always)]
+fn put_pointer(
+    marks: &[bool],
+    bases: &[Operand],
+    value: ValueId,
+    set: &mut PointerSet,
+) -> Result<(), Memory>
+    requires { has_mark marks.now value.0 ≡ true }
+    ensures { IfOk result (λ _. Changed marks.now set.old set.new (λ v old. uses marks.now bases.now v (Value value) || old)) }
+{
+    set.put(value)?;
+    put(marks, base_of(bases, value), set)?;
     Ok(())
 }
 
