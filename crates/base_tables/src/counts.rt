@@ -12,7 +12,7 @@ pub(crate) fn counts_before(alloc: Global, marks: &[bool]) -> Result<Vec<u32>, M
     let mut counts = Vec::with_capacity(alloc, marks.len())?;
     let mut before = 0;
     for mark in marks {
-        counts.push(before)?;
+        counts.push_reserved(before);
         if *mark {
             before += 1;
         }

@@ -291,9 +291,9 @@ fn flags_of(alloc: Global, marks: &[bool], shapes: &[Shape<'_>]) -> Result<Flags
     for shape in shapes {
         let merges = is_merged(marks, shape);
         let negates = is_negated(marks, shape);
-        merged.push(merges)?;
-        negated.push(negates)?;
-        any.push(either(merges, negates))?;
+        merged.push_reserved(merges);
+        negated.push_reserved(negates);
+        any.push_reserved(either(merges, negates));
     }
     Ok(Flags {
         merged,
@@ -336,11 +336,11 @@ fn numbered(alloc: Global, marks: &[bool]) -> Result<Numbers, Memory>
     let mut numbers = Vec::with_capacity(alloc, marks.len())?;
     let mut next = 0;
     for mark in marks {
-        inserted.push(next)?;
+        inserted.push_reserved(next);
         if *mark {
             next += 1;
         }
-        numbers.push(next)?;
+        numbers.push_reserved(next);
         next += 1;
     }
     Ok(Numbers { inserted, numbers })
@@ -356,7 +356,7 @@ fn bases(
 {
     let mut bases = Vec::with_capacity(alloc, origins.len())?;
     for origin in origins {
-        bases.push(own_base(merged, numbers, *origin))?;
+        bases.push_reserved(own_base(merged, numbers, *origin));
     }
     Ok(bases)
 }

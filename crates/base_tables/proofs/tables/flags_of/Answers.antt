@@ -10,9 +10,15 @@ loop-shape-preserved c =
     let i = c.loop-shape.shape-index in
     let shapes = c.args.shapes.now in
     record {
-      merged = flag_more (λ shape. kind_merged c.args.marks.now (seen_shape shape)) shapes i _ c.loop-shape-test.true c.loop-shape.merged.items c.push.new.self.items _ c.loop-shape.invariant.merged c.in_ok-push.ensures.items c.is_merged-merges.ensures;
-      negated = flag_more (λ shape. kind_negated c.args.marks.now (seen_shape shape)) shapes i _ c.loop-shape-test.true c.loop-shape.negated.items c.push-in-loop-shape.new.self.items _ c.loop-shape.invariant.negated c.in_ok-push-2.ensures.items c.is_negated-negates.ensures;
-      either = flag_more (λ shape. kind_inserted c.args.marks.now (seen_shape shape)) shapes i _ c.loop-shape-test.true c.loop-shape.any.items c.push-in-loop-shape-2.new.self.items _ c.loop-shape.invariant.either c.in_ok-push-3.ensures.items (either_is c.either.ensures c.is_merged-merges.ensures c.is_negated-negates.ensures);
+      merged = flag_more (λ shape. kind_merged c.args.marks.now (seen_shape shape)) shapes i _ c.loop-shape-test.true c.loop-shape.merged.items c.push_reserved.new.self.items _ c.loop-shape.invariant.merged c.push_reserved.ensures.items c.is_merged-merges.ensures;
+      negated = flag_more (λ shape. kind_negated c.args.marks.now (seen_shape shape)) shapes i _ c.loop-shape-test.true c.loop-shape.negated.items c.push_reserved-in-loop-shape.new.self.items _ c.loop-shape.invariant.negated c.push_reserved-in-loop-shape.ensures.items c.is_negated-negates.ensures;
+      either = flag_more (λ shape. kind_inserted c.args.marks.now (seen_shape shape)) shapes i _ c.loop-shape-test.true c.loop-shape.any.items c.push_reserved-in-loop-shape-2.new.self.items _ c.loop-shape.invariant.either c.push_reserved-in-loop-shape-2.ensures.items (either_is c.either.ensures c.is_merged-merges.ensures c.is_negated-negates.ensures);
+      merged_len = omega (arith, c.push_reserved.ensures.len, c.loop-shape.invariant.merged_len);
+      merged_room = omega (arith, c.push_reserved.ensures.capacity, c.loop-shape.invariant.merged_room);
+      negated_len = omega (arith, c.push_reserved-in-loop-shape.ensures.len, c.loop-shape.invariant.negated_len);
+      negated_room = omega (arith, c.push_reserved-in-loop-shape.ensures.capacity, c.loop-shape.invariant.negated_room);
+      either_len = omega (arith, c.push_reserved-in-loop-shape-2.ensures.len, c.loop-shape.invariant.either_len);
+      either_room = omega (arith, c.push_reserved-in-loop-shape-2.ensures.capacity, c.loop-shape.invariant.either_room);
     }
 
 pub returns : goal.returns

@@ -24,12 +24,16 @@ loop-mark-preserved c =
         | then-mark w ↦ omega (arith, w.next-is, c.loop-mark.invariant.few)
         | else-mark w ↦ omega (arith, w.next-is, c.loop-mark.invariant.few)
       ];
-      inserted = c.in_ok-push.ensures.items
+      inserted = c.push_reserved.ensures.items
           ∙ ap (λ (xs : List ℕ). xs ++ c.loop-mark.next ∷ []) c.loop-mark.invariant.inserted
           ∙ ap (λ (n : ℕ). map (inserted_in marks) (range_with_len 0 i) ++ n ∷ []) c.loop-mark.invariant.next
           ∙ sym (map-range_with_len_more (inserted_in marks) 0 i i (omega arith));
-      numbers = c.in_ok-push-2.ensures.items
+      numbers = c.push_reserved-in-loop-mark.ensures.items
           ∙ ap (λ (xs : List ℕ). xs ++ c.if-mark.next ∷ []) c.loop-mark.invariant.numbers
           ∙ ap (λ (n : ℕ). map (number_in marks) (range_with_len 0 i) ++ n ∷ []) (own ∙ number)
           ∙ sym (map-range_with_len_more (number_in marks) 0 i i (omega arith));
+      len = omega (arith, c.push_reserved.ensures.len, c.loop-mark.invariant.len);
+      room = omega (arith, c.push_reserved.ensures.capacity, c.loop-mark.invariant.room);
+      numbers_len = omega (arith, c.push_reserved-in-loop-mark.ensures.len, c.loop-mark.invariant.numbers_len);
+      numbers_room = omega (arith, c.push_reserved-in-loop-mark.ensures.capacity, c.loop-mark.invariant.numbers_room);
     }
