@@ -1,4 +1,4 @@
-ghost use Rattle.std.specs.Prelude.{◌≡◌, ◌<◌, ◌^◌, ℕ, ◌++◌, ◌∷◌, [], ◌||◌, true, false, length, map, Some, slice_get, slice_index, slice_index_or, IfOk};
+ghost use Rattle.std.specs.Prelude.{◌≡◌, ◌<◌, ◌^◌, ℕ, ◌++◌, ◌∷◌, [], ◌||◌, true, false, length, map, replicate, Some, slice_get, slice_index, slice_index_or, IfOk};
 ghost use Rattle.std.specs.List.{All, range_with_len};
 ghost use Rattle.ir_ast.specs.Funcs.{instructions_of};
 ghost use Rattle.ir_ast.specs.Lines.{IsLine};
@@ -189,8 +189,8 @@ fn unchanged(alloc: Global, derived: Vec<bool>, origins: Vec<Operand>) -> Result
     ensures { IfOk result (λ tables. tables ≡ unchanged derived.items origins.items) }
 {
     let count = derived.len();
-    let base_ranks = vec![in alloc; 0; count]?;
-    let same_ranks = Vec::from_slice(alloc, base_ranks.as_slice())?;
+    let base_ranks = zeros(alloc, count)?;
+    let same_ranks = zeros(alloc, count)?;
     let inserted = rising(alloc, count)?;
     let numbers = Vec::from_slice(alloc, inserted.as_slice())?;
     Ok(Tables {
@@ -201,6 +201,15 @@ fn unchanged(alloc: Global, derived: Vec<bool>, origins: Vec<Operand>) -> Result
         numbers,
         bases: origins,
     })
+}
+
+// As many zeros; `vec!` would not become a `memset`.
+fn zeros(alloc: Global, count: usize) -> Result<Vec<u32>, Memory>
+    ensures { IfOk result (λ numbers. numbers.items ≡ replicate count 0) }
+{
+    let mut numbers = Vec::new(alloc);
+    numbers.resize(count, 0)?;
+    Ok(numbers)
 }
 
 // The numbers from 0 on.
