@@ -76,6 +76,7 @@ pub fn live(alloc: Global, func: &Func, cfg: &Cfg, bases: &BaseTable) -> Result<
 }
 
 // Adds the lists of a block's calls, the last one first.
+#[inline(always)]
 fn add_block(
     alloc: Global,
     func: &Func,
@@ -98,6 +99,29 @@ fn add_block(
     if !has_call {
         return Ok(());
     }
+    add_lines(alloc, func, number, first, marks, bases, ends, set, lists)?;
+    Ok(())
+}
+
+// Adds the lists of the calls in a block that has some. It is a function of its own so that the loop has the registers.
+#[inline(never)]
+fn add_lines(
+    alloc: Global,
+    func: &Func,
+    number: usize,
+    first: usize,
+    marks: &[bool],
+    bases: &[Operand],
+    ends: &[ValueId],
+    set: &mut PointerSet,
+    lists: &mut Vec<Vec<ValueId>>,
+) -> Result<(), Memory>
+    requires number { number < length func.now.content.blocks }
+    requires first { first ≡ first_of func.now.content number }
+    requires marks { marks.now ≡ map is_pointer (value_types func.now.content) }
+    requires ends { ends.now ≡ map valued (filter (lives_at_end func.now.content bases.now number) (pointers func.now.content)) }
+    ensures { IfOk result (λ _. AddsBlock func.now.content bases.now number lists.old.items lists.new.items) }
+{
     let insts = func.blocks()[number].insts();
     fill(alloc, marks, ends, set)?;
     let mut next = after(first, insts);

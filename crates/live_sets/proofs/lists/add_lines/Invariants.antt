@@ -1,7 +1,7 @@
 use Rattle.std.proofs.Common.{◌≡◌, ◌≤◌, length, take}
 use Rattle.object_meaning.specs.Lines.{after_all}
 use Rattle.live_sets.specs.Lists.{AtPlace}
-use Rattle.live_sets.proofs.lists.add_block.Given as goal
+use Rattle.live_sets.proofs.lists.add_lines.Given as goal
 
 abbrev pub invariant-loop-place : goal.invariant-loop-place
 invariant-loop-place l = record {
