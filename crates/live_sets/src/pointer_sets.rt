@@ -94,6 +94,7 @@ impl PointerSet {
     }
 
     /// Takes a value out.
+    #[inline(never)]
     pub(crate) fn take(&mut self, value: ValueId)
         ensures { Takes value.0 self.old self.new }
     {

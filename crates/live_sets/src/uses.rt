@@ -88,6 +88,7 @@ fn has_mark(marks: &[bool], value: ValueId) -> bool
 }
 
 // Takes a value out of a set of pointers.
+#[inline(always)]
 fn take(marks: &[bool], value: Option<ValueId>, set: &mut PointerSet)
     ensures { Changed marks.now set.old set.new (λ v old. if names value v then false else old) }
 {
@@ -133,6 +134,7 @@ fn put_pointer(
 }
 
 /// Puts in what these operands use.
+#[inline(always)]
 pub(crate) fn put_operands(
     marks: &[bool],
     bases: &[Operand],
@@ -180,6 +182,7 @@ fn put_entries(
 }
 
 // Puts in what the operands of a line use. The entries of a phi are used elsewhere.
+#[inline(always)]
 fn put_own(
     marks: &[bool],
     bases: &[Operand],
