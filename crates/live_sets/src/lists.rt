@@ -242,6 +242,7 @@ fn result_of(inst: &Inst, number: usize) -> Option<ValueId>
 }
 
 // Adds the list of a call, of what is live behind it and what its bundle uses.
+#[inline(always)]
 fn add_list(
     alloc: Global,
     marks: &[bool],
@@ -254,9 +255,27 @@ fn add_list(
     ensures { IfOk result (λ _. AddsList marks.now bases.now inst.now to set.old set.new lists.old.items lists.new.items) }
 {
     if is_call(inst.op()) {
-        put_bundle(marks, bases, inst.bundle(), set)?;
-        lists.push(list_of(alloc, set.set(), to)?)?;
+        add_held(alloc, marks, bases, inst, to, set, lists)?;
     }
+    Ok(())
+}
+
+// The rarer part of `add_list`: few lines are such calls.
+#[inline(never)]
+fn add_held(
+    alloc: Global,
+    marks: &[bool],
+    bases: &[Operand],
+    inst: &Inst,
+    to: Option<ValueId>,
+    set: &mut PointerSet,
+    lists: &mut Vec<Vec<ValueId>>,
+) -> Result<(), Memory>
+    requires { is_call inst.now.op ≡ true }
+    ensures { IfOk result (λ _. AddsList marks.now bases.now inst.now to set.old set.new lists.old.items lists.new.items) }
+{
+    put_bundle(marks, bases, inst.bundle(), set)?;
+    lists.push(list_of(alloc, set.set(), to)?)?;
     Ok(())
 }
 
