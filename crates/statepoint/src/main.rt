@@ -11,17 +11,26 @@ use tool_io::{DiskFiles, NoteSink, OutSink, Sink};
 // pages.
 const LARGEST_KEPT: usize = 31 << 20;
 
+// Small chunks that stay while a text is read, as the arguments of its functions, come to stand in the hole that a chunk of this size leaves
+// below all others. Between two large lists one would keep them from being one hole when they are let go, so that the next larger list is
+// touched anew.
+const ROOM_FOR_SMALL: usize = 1 << 20;
+
 fn main(rt: HostRuntime) -> ExitCode {
     ExitCode::from(run(&rt).code())
 }
 
 // A word that isn't UTF-8 makes a faulty command line, as no word at all does.
 fn run(rt: &HostRuntime) -> Status {
-    drop(large_chunk(rt));
+    drop(untouched(rt, LARGEST_KEPT));
+    let room = untouched(rt, ROOM_FOR_SMALL);
+    let words = words(rt);
+    // The words stand behind it.
+    drop(room);
     let mut files = DiskFiles::new(rt);
     let mut out = OutSink::new(rt);
     let mut notes = NoteSink::new(rt.stderr());
-    match words(rt) {
+    match words {
         Ok(words) => statepoint(rt.alloc(), &words, &mut files, &mut out, &mut notes),
         Err(error) if error.kind() == io::ErrorKind::OutOfMemory => {
             match notes.put(b"out of memory\n") {
@@ -35,8 +44,8 @@ fn run(rt: &HostRuntime) -> Status {
 
 // A chunk of which no byte is touched. The compiler would leave it out where it is also let go.
 #[inline(never)]
-fn large_chunk(rt: &HostRuntime) -> Option<Vec<u8>> {
-    Vec::with_capacity(rt.alloc(), LARGEST_KEPT).ok()
+fn untouched(rt: &HostRuntime, bytes: usize) -> Option<Vec<u8>> {
+    Vec::with_capacity(rt.alloc(), bytes).ok()
 }
 
 fn words(rt: &HostRuntime) -> io::Result<Vec<String>> {
