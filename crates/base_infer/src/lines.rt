@@ -13,7 +13,9 @@ use ir_ast::{Inst, Op, Pred};
 use sp_ids::Memory;
 use std::alloc::Global;
 
-/// Adds the lines for an instruction; its own result or the next one is the value `next`.
+/// Adds the lines for an instruction; its own result or the next one is the value `next`. It isn't inlined, so that the instruction is moved
+/// into the list from where the walk over the old ones put it.
+#[inline(never)]
 pub(crate) fn push_lines(
     alloc: Global,
     tables: &Tables,
@@ -173,6 +175,7 @@ fn push_kept(
 }
 
 // The base of a phi or select, where that is derived.
+#[inline(never)]
 fn push_base(
     alloc: Global,
     tables: &Tables,
@@ -192,6 +195,7 @@ fn push_base(
 }
 
 // A compare with a derived operand.
+#[inline(never)]
 fn push_compared(
     alloc: Global,
     tables: &Tables,

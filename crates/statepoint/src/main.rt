@@ -14,7 +14,7 @@ const LARGEST_KEPT: usize = 31 << 20;
 // Small chunks that stay while a text is read, as the arguments of its functions, come to stand in the hole that a chunk of this size leaves
 // below all others. Between two large lists one would keep them from being one hole when they are let go, so that the next larger list is
 // touched anew.
-const ROOM_FOR_SMALL: usize = 1 << 20;
+const ROOM_FOR_SMALL: usize = 2 << 20;
 
 fn main(rt: HostRuntime) -> ExitCode {
     ExitCode::from(run(&rt).code())
