@@ -13,14 +13,14 @@ use ir_ast::{Inst, Op, Pred};
 use sp_ids::Memory;
 use std::alloc::Global;
 
-/// Adds the lines for an instruction; its own result or the next one is the value `next`. It isn't inlined, so that the instruction is moved
-/// into the list from where the walk over the old ones put it.
-#[inline(never)]
+/// Adds the lines for an instruction; its own result or the next one is the value `next`. It is inlined, so that the instruction is moved
+/// into the list from where the walk over the old ones put it, and gets its new numbers there.
+#[inline(always)]
 pub(crate) fn push_lines(
     alloc: Global,
     tables: &Tables,
     next: usize,
-    mut inst: Inst,
+    inst: Inst,
     lines: &mut Vec<Inst>,
 ) -> Result<(), Memory>
     ensures { IfOk result (λ _. lines.new.items ≡ lines.old.items ++ lines_for (tabled tables.now) next inst inst.op) }
@@ -29,9 +29,7 @@ pub(crate) fn push_lines(
         Some(pred) => push_compared(alloc, tables, next, pred, inst, lines),
         None => {
             push_before(alloc, tables, next, &inst, lines)?;
-            renumber_inst(alloc, tables, &mut inst)?;
-            lines.push(inst)?;
-            Ok(())
+            push_kept(alloc, tables, inst, lines)
         }
     }
 }
@@ -161,17 +159,17 @@ pub(crate) fn stands_alone(tables: &Tables, inst: &Inst) -> bool
     }
 }
 
+#[inline(always)]
 fn push_kept(
     alloc: Global,
     tables: &Tables,
-    mut inst: Inst,
+    inst: Inst,
     lines: &mut Vec<Inst>,
 ) -> Result<(), Memory>
     ensures { IfOk result (λ _. lines.new.items ≡ lines.old.items ++ kept_line (tabled tables.now) inst ∷ []) }
 {
-    renumber_inst(alloc, tables, &mut inst)?;
-    lines.push(inst)?;
-    Ok(())
+    let pushed = lines.push_mut(inst)?;
+    renumber_inst(alloc, tables, pushed)
 }
 
 // The base of a phi or select, where that is derived.

@@ -1,6 +1,6 @@
 //! The lines of a block behind the group, and those of the entry.
 
-ghost use Rattle.std.specs.Prelude.{◌≡◌, ◌≤◌, ◌++◌, [], true, false, drop, length, map, slice_index, IfOk, OnOk};
+ghost use Rattle.std.specs.Prelude.{◌≡◌, ◌≤◌, ◌++◌, [], true, false, drop, length, map, slice_index, take, IfOk, OnOk};
 ghost use Rattle.ir_ast.specs.Ops.{is_terminator};
 ghost use Rattle.entry_groups.specs.Entry.{put, put_line, group_values, first_lines, entry_lines, goes_on};
 
@@ -130,19 +130,34 @@ pub(crate) fn entry_lines(
     }
     let nothing = no_line(alloc);
     let first = mem::replace(&mut insts[0], nothing);
-    put_all(alloc, row, insts.as_mut_slice())?;
-    let mut lines = Vec::with_capacity(alloc, group.relocates().len().saturating_add(1))?;
-    push_first(alloc, token, group, first, &mut lines)?;
-    with_front(insts, lines)
+    let mut front = Vec::with_capacity(alloc, group.relocates().len().saturating_add(1))?;
+    push_first(alloc, token, group, first, &mut front)?;
+    with_front(alloc, row, insts, front)
 }
 
-// The lines with others in place of the first. Where their list has room they are moved up in it, and no memory is touched anew.
-fn with_front(mut lines: Vec<Inst>, front: Vec<Inst>) -> Result<Vec<Inst>, Memory>
+// The lines with others in place of the first, and with new numbers behind these. Where their list has room they are moved up in it, and no
+// memory is touched anew. They are moved first, since so many are no longer near at hand, and read in the order in which they lie then.
+fn with_front(
+    alloc: Global,
+    row: &[u32],
+    mut lines: Vec<Inst>,
+    front: Vec<Inst>,
+) -> Result<Vec<Inst>, Memory>
     requires { 1 ≤ length lines.items }
-    ensures { IfOk result (λ after. after.items ≡ front.items ++ drop 1 lines.items) }
+    ensures { IfOk result (λ after. after.items ≡ front.items ++ map (put_line row.now) (drop 1 lines.items)) }
 {
+    let behind = front.len();
     lines.splice(0..1, front)?;
+    put_behind(alloc, row, behind, &mut lines)?;
     Ok(lines)
+}
+
+// Gives lines these numbers, from a place on.
+fn put_behind(alloc: Global, row: &[u32], from: usize, lines: &mut Vec<Inst>) -> Result<(), Memory>
+    requires { from ≤ length lines.old.items }
+    ensures { OnOk result (lines.new.items ≡ take from lines.old.items ++ map (put_line row.now) (drop from lines.old.items)) }
+{
+    put_all(alloc, row, &mut lines[from..])
 }
 
 fn push_first(

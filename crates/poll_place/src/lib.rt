@@ -6,4 +6,4 @@ mod laws;
 mod polls;
 
 pub use laws::{polls_stand_at_points, sources_are_ready};
-pub use polls::place;
+pub use polls::{place, place_func};

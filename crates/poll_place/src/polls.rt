@@ -37,7 +37,8 @@ fn place_all(alloc: Global, funcs: Vec<Func>) -> Result<Vec<Func>, Memory>
     Ok(after)
 }
 
-fn place_func(alloc: Global, func: Func) -> Result<Func, Memory>
+/// The function with its polls, likewise; blocks that it doesn't reach keep theirs. Where memory is wanted the function is gone.
+pub fn place_func(alloc: Global, func: Func) -> Result<Func, Memory>
     requires { HasFewLines func.content }
     ensures content { IfOk result (λ after. after.content ≡ placed func.content) }
     ensures lines { IfOk result (λ after. after.lines ≡ zeros_of after.content) }

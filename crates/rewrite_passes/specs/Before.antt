@@ -4,7 +4,9 @@ use Rattle.ir_ast.specs.declared.ops.Operand.{Operand}
 use Rattle.ir_ast.specs.Formed.{IsFormed}
 use Rattle.ir_ast.specs.Funcs.{Function}
 use Rattle.base_forms.specs.Based.{base_table, based}
+use Rattle.base_forms.specs.Polls.{placed}
 use Rattle.poll_place.specs.Ready.{IsReady}
+use Rattle.poll_place.specs.Room.{HasFewLines}
 use Rattle.rewriting_forms.specs.Liveness.{live_lists}
 use Rattle.rewriting_forms.specs.Rewritten.{rewritten}
 use Rattle.statepoint_insert.specs.Marked.{IsReady as IsReadyForGroups}
@@ -26,6 +28,11 @@ relocates_of func = sum (map length (live_lists (based func) (base_table func)))
 pub record CanBeMade (func : Function) : Type 0 where
   pub ready : IsReady func
   pub formed : IsFormed (based func)
+
+-- polls can be placed in it, and then bases and checks put in
+pub record CanBegin (func : Function) : Type 0 where
+  pub polls : HasFewLines func
+  pub bases : CanBeMade (placed func)
 
 -- groups can be put into it
 abbrev pub CanHaveGroups : BeforeGroups → Type 0

@@ -1,5 +1,5 @@
-//! The passes over a module's functions with polls, one function after another: bases and checks, live pointers, and then statepoint
-//! groups in SSA form (Garbage Collection Safepoints in LLVM, "RewriteStatepointsForGC").
+//! The passes over a module's functions, one function after another: polls, bases and checks, live pointers, and then statepoint
+//! groups in SSA form (Garbage Collection Safepoints in LLVM, "PlaceSafepoints", "RewriteStatepointsForGC").
 #![tactic(auto)]
 
 mod before;

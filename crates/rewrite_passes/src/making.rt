@@ -1,25 +1,27 @@
 ghost use Rattle.std.specs.Prelude.{◌≡◌, ◌+◌, ◌<◌, ◌≤◌, ◌++◌, ◌∷◌, [], length, map, sum, IfOk, IfSome, IfNone};
 ghost use Rattle.std.specs.List.{All};
 ghost use Rattle.ir_ast.specs.Funcs.{content_of};
-ghost use Rattle.rewrite_passes.specs.Before.{CanBeMade, made_of, relocates_of};
+ghost use Rattle.base_forms.specs.Polls.{placed};
+ghost use Rattle.rewrite_passes.specs.Before.{CanBegin, made_of, relocates_of};
 
 use crate::before::Before;
 use base_infer::insert;
 use ir_ast::{Func, LiveTable};
 use ir_cfg::Cfg;
 use live_sets::live;
+use poll_place::place_func;
 use sp_ids::Memory;
 use sp_ids::limits::RELOCATES;
 use std::alloc::Global;
 
-/// Each of these functions with bases and checks, and with the pointers that are live across its calls; or `None` where all their groups
+/// Each of these functions with polls, bases and checks, and with the pointers that are live across its calls; or `None` where all their groups
 /// together would have more than 4,194,304 relocates, which are counted before any group is made. Where memory is wanted the functions
 /// are gone.
 pub fn before_groups(alloc: Global, funcs: Vec<Func>) -> Result<Option<Vec<Before>>, Memory>
-    requires { All (λ func. CanBeMade func.content) funcs.items }
-    ensures made { IfOk result (λ made. IfSome made (λ all. all.items ≡ map made_of (map content_of funcs.items))) }
-    ensures few { IfOk result (λ made. IfSome made (λ _. sum (map relocates_of (map content_of funcs.items)) ≤ 4194304)) }
-    ensures many { IfOk result (λ made. IfNone made (4194304 < sum (map relocates_of (map content_of funcs.items)))) }
+    requires { All (λ func. CanBegin func.content) funcs.items }
+    ensures made { IfOk result (λ made. IfSome made (λ all. all.items ≡ map (λ func. made_of (placed func)) (map content_of funcs.items))) }
+    ensures few { IfOk result (λ made. IfSome made (λ _. sum (map (λ func. relocates_of (placed func)) (map content_of funcs.items)) ≤ 4194304)) }
+    ensures many { IfOk result (λ made. IfNone made (4194304 < sum (map (λ func. relocates_of (placed func)) (map content_of funcs.items)))) }
 {
     let mut all = Vec::with_capacity(alloc, funcs.len())?;
     let mut left = RELOCATES;
@@ -34,14 +36,15 @@ pub fn before_groups(alloc: Global, funcs: Vec<Func>) -> Result<Option<Vec<Befor
     Ok(Some(all))
 }
 
-// The function with its tables, and what its relocates leave of so many, unless they are more.
+// The function with its polls, bases and tables, and what its relocates leave of so many, unless they are more.
 fn before(alloc: Global, func: Func, left: u64) -> Result<(Before, Option<u64>), Memory>
-    requires { CanBeMade func.content }
-    ensures made { IfOk result (λ made. made.0 ≡ made_of func.content) }
-    ensures within { IfOk result (λ made. IfSome made.1 (λ rest. rest + relocates_of func.content ≡ left)) }
-    ensures past { IfOk result (λ made. IfNone made.1 (left < relocates_of func.content)) }
+    requires { CanBegin func.content }
+    ensures made { IfOk result (λ made. made.0 ≡ made_of (placed func.content)) }
+    ensures within { IfOk result (λ made. IfSome made.1 (λ rest. rest + relocates_of (placed func.content) ≡ left)) }
+    ensures past { IfOk result (λ made. IfNone made.1 (left < relocates_of (placed func.content))) }
 {
-    let (based, bases) = insert(alloc, func)?;
+    let polled = place_func(alloc, func)?;
+    let (based, bases) = insert(alloc, polled)?;
     let cfg = Cfg::of(alloc, &based)?;
     let lists = live(alloc, &based, &cfg, &bases)?;
     let rest = left_after(left, &lists);

@@ -12,7 +12,6 @@ ghost use Rattle.sp_rewrite.specs.Statements.{IsRewritten};
 use crate::faults::RewriteFault;
 use ir_ast::{Form, Module};
 use ir_cfg::drop_unreachable;
-use poll_place::place;
 use rewrite_passes::{before_groups, with_groups};
 use statepoint_verify::Verified;
 use std::alloc::Global;
@@ -34,8 +33,7 @@ pub fn rewrite(alloc: Global, source: Module) -> Result<Verified, RewriteFault>
     ensures many { IfErr result (λ fault. fault ≡ RewriteFault.TooManyRelocations → HasManyRelocates source.content) }
 {
     let reached = drop_unreachable(alloc, source)?;
-    let with_polls = place(alloc, reached)?;
-    let (layouts, funcs, _form) = with_polls.into_parts();
+    let (layouts, funcs, _form) = reached.into_parts();
     match before_groups(alloc, funcs)? {
         None => Err(RewriteFault::TooManyRelocations),
         Some(all) => {
