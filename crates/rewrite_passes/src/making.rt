@@ -2,7 +2,7 @@ ghost use Rattle.std.specs.Prelude.{◌≡◌, ◌+◌, ◌<◌, ◌≤◌, ◌+
 ghost use Rattle.std.specs.List.{All};
 ghost use Rattle.ir_ast.specs.Funcs.{content_of};
 ghost use Rattle.base_forms.specs.Polls.{placed};
-ghost use Rattle.rewrite_passes.specs.Before.{CanBegin, made_of, relocates_of};
+ghost use Rattle.rewrite_passes.specs.Before.{CanBegin, CanBeMade, made_of, relocates_of};
 
 use crate::before::Before;
 use base_infer::insert;
@@ -36,7 +36,7 @@ pub fn before_groups(alloc: Global, funcs: Vec<Func>) -> Result<Option<Vec<Befor
     Ok(Some(all))
 }
 
-// The function with its polls, bases and tables, and what its relocates leave of so many, unless they are more.
+// The function with its polls and tables, and what its relocates leave of so many, unless they are more.
 fn before(alloc: Global, func: Func, left: u64) -> Result<(Before, Option<u64>), Memory>
     requires { CanBegin func.content }
     ensures made { IfOk result (λ made. made.0 ≡ made_of (placed func.content)) }
@@ -44,6 +44,15 @@ fn before(alloc: Global, func: Func, left: u64) -> Result<(Before, Option<u64>),
     ensures past { IfOk result (λ made. IfNone made.1 (left < relocates_of (placed func.content))) }
 {
     let polled = place_func(alloc, func)?;
+    with_tables(alloc, polled, left)
+}
+
+fn with_tables(alloc: Global, polled: Func, left: u64) -> Result<(Before, Option<u64>), Memory>
+    requires { CanBeMade polled.content }
+    ensures made { IfOk result (λ made. made.0 ≡ made_of polled.content) }
+    ensures within { IfOk result (λ made. IfSome made.1 (λ rest. rest + relocates_of polled.content ≡ left)) }
+    ensures past { IfOk result (λ made. IfNone made.1 (left < relocates_of polled.content)) }
+{
     let (based, bases) = insert(alloc, polled)?;
     let cfg = Cfg::of(alloc, &based)?;
     let lists = live(alloc, &based, &cfg, &bases)?;

@@ -1,26 +1,19 @@
-use Rattle.std.proofs.Common.{◌≡◌, ℕ, ◌+◌, ◌<◌, List, length, map, ap, subst, ◌∙◌}
-use Rattle.std.specs.Prelude.{IfNone, IfSome, sum}
-use Rattle.sp_ids.specs.declared.ids.ValueId.{ValueId}
-use Rattle.ir_ast.specs.declared.ops.Operand.{Operand}
+use Rattle.std.proofs.Common.{◌≡◌, ◌+◌, ◌<◌, subst}
+use Rattle.std.specs.Prelude.{IfNone, IfOk, IfSome}
 use Rattle.ir_ast.specs.Funcs.{Function}
-use Rattle.base_forms.specs.Based.{base_table, based}
-use Rattle.base_forms.specs.Polls.{placed}
-use Rattle.rewriting_forms.specs.Liveness.{live_lists}
-use Rattle.rewrite_passes.proofs.SumLaws.{sizes_valued}
+use Rattle.rewrite_passes.specs.Before.{made_of, relocates_of}
 use Rattle.rewrite_passes.proofs.making.before.Goals as goal
+
+pub returns-clause-made : goal.returns-clause-made
+returns-clause-made c =
+    subst (λ (func : Function). IfOk c.with_tables.result (λ made. made.0 ≡ made_of func)) c.in_ok-polled.ensures.content c.with_tables.ensures.made
 
 pub returns-clause-within : goal.returns-clause-within
 returns-clause-within c =
-    let size = ap (λ (lists : List (List ValueId)). sum (map length lists)) c.in_ok-lists.ensures
-    ∙ sizes_valued (live_lists c.in_ok-based.based.content c.in_ok-based.bases)
-    ∙ ap (λ (func : Function). sum (map length (live_lists func c.in_ok-based.bases))) (c.in_ok-based.ensures.based ∙ ap based c.in_ok-polled.ensures.content)
-    ∙ ap (λ (table : List Operand). sum (map length (live_lists (based (placed c.args.func.content)) table))) (c.in_ok-based.ensures.table ∙ ap base_table c.in_ok-polled.ensures.content) in
-    subst (λ (n : ℕ). IfSome c.left_after-rest.result (λ rest. rest + n ≡ c.args.left)) size c.left_after-rest.ensures.within
+    subst (λ (func : Function). IfOk c.with_tables.result (λ made. IfSome made.1 (λ rest. rest + relocates_of func ≡ c.args.left))) c.in_ok-polled.ensures.content
+    c.with_tables.ensures.within
 
 pub returns-clause-past : goal.returns-clause-past
 returns-clause-past c =
-    let size = ap (λ (lists : List (List ValueId)). sum (map length lists)) c.in_ok-lists.ensures
-    ∙ sizes_valued (live_lists c.in_ok-based.based.content c.in_ok-based.bases)
-    ∙ ap (λ (func : Function). sum (map length (live_lists func c.in_ok-based.bases))) (c.in_ok-based.ensures.based ∙ ap based c.in_ok-polled.ensures.content)
-    ∙ ap (λ (table : List Operand). sum (map length (live_lists (based (placed c.args.func.content)) table))) (c.in_ok-based.ensures.table ∙ ap base_table c.in_ok-polled.ensures.content) in
-    subst (λ (n : ℕ). IfNone c.left_after-rest.result (c.args.left < n)) size c.left_after-rest.ensures.past
+    subst (λ (func : Function). IfOk c.with_tables.result (λ made. IfNone made.1 (c.args.left < relocates_of func))) c.in_ok-polled.ensures.content
+    c.with_tables.ensures.past

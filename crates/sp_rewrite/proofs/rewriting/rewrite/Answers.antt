@@ -1,7 +1,7 @@
-use Rattle.std.proofs.Common.{◌≡◌, ◌<◌, ◌≤◌, map, sym, ap, subst, ◌∙◌}
+use Rattle.std.proofs.Common.{◌≡◌, ◌<◌, ◌≤◌, map, sym, subst}
 use Rattle.std.specs.Prelude.{IfNone, IfSome, sum}
 use Rattle.ir_ast.specs.Funcs.{content_of}
-use Rattle.ir_ast.specs.Modules.{LinedModule, ModuleContent}
+use Rattle.ir_ast.specs.Modules.{LinedModule}
 use Rattle.ir_ast.specs.declared.modules.Form.TheVariants.{Rewritten}
 use Rattle.ir_cfg.proofs.TypedLemmas.{formed_module}
 use Rattle.poll_place.proofs.PlacedLemmas.{all_under}
