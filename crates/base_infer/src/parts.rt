@@ -248,10 +248,10 @@ pub(crate) fn name(alloc: Global, front: &[u8], rank: u32) -> Result<Name, Memor
     ensures { IfOk result (λ name. name ≡ numbered_name front.now rank) }
 {
     let mut buffer = Buffer::new();
-    let mut bytes = SmallVec::new(alloc);
+    let mut bytes = SmallVec::<u8, 16>::new(alloc);
     bytes.extend_from_slice(front)?;
     bytes.extend_from_slice(buffer.format(rank).as_bytes())?;
-    Ok(Name::of(bytes))
+    Ok(Name::of(alloc, bytes.as_slice())?)
 }
 
 /// The operand at a place, or `null` where there is none.

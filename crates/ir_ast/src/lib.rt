@@ -20,7 +20,7 @@ pub use funcs::{Arg, Func};
 pub use insts::Inst;
 pub use layouts::Layout;
 pub use modules::{Form, Module};
-pub use names::{Name, NameBytes};
+pub use names::Name;
 pub use ops::{Callee, Elem, Labels, Op, Operand, Operands, Pred};
 pub use rest::Rest;
 pub use tables::{BaseTable, LiveTable};

@@ -44,8 +44,7 @@ fn layout_made(name: &[u8]) -> &[u8]
 pub fn owned(alloc: Global, name: &[u8]) -> Result<Name, AllocError>
     ensures { IfOk result (λ owned. owned ≡ name.now) }
 {
-    let bytes = SmallVec::from_slice(alloc, name)?;
-    Ok(Name::of(bytes))
+    Name::of(alloc, name)
 }
 
 // The place of a field.

@@ -49,7 +49,7 @@ fn argument(alloc: Global, name: &[u8], ty: Ty) -> Result<Arg, Memory>
     ensures { IfOk result (λ arg. arg ≡ record { name = name.now; ty = ty }) }
 {
     Ok(Arg {
-        name: Name::of(SmallVec::from_slice(alloc, name)?),
+        name: Name::of(alloc, name)?,
         ty,
     })
 }
@@ -68,8 +68,8 @@ pub(crate) fn main_function(alloc: Global, size: u32) -> Result<Func, Memory>
         },
     )?)?;
     let mut blocks = Vec::with_capacity(alloc, 1)?;
-    blocks.push(Block::of(Name::of(SmallVec::from_slice(alloc, b"entry")?), insts))?;
-    let name = Name::of(SmallVec::from_slice(alloc, b"main")?);
+    blocks.push(Block::of(Name::of(alloc, b"entry")?, insts))?;
+    let name = Name::of(alloc, b"main")?;
     Ok(Func::of(name, Ty::Int(64), Vec::new(alloc), blocks))
 }
 

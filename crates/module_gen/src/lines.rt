@@ -209,7 +209,7 @@ fn call_of(alloc: Global, callee: Callee, types: &[Ty]) -> Result<Op, Memory>
 fn give(alloc: Global, name: &[u8], op: Op, ty: Ty, operands: &[Operand]) -> Result<Inst, Memory>
     ensures { IfOk result (λ made. made ≡ line (Some name.now) op ty operands.now []) }
 {
-    let named = Name::of(SmallVec::from_slice(alloc, name)?);
+    let named = Name::of(alloc, name)?;
     inst(alloc, Some(named), op, ty, operands, &[])
 }
 
@@ -222,7 +222,7 @@ fn merge(
 ) -> Result<Inst, Memory>
     ensures { IfOk result (λ made. made ≡ line (Some name.now) Op.Phi ty operands.now labels.now) }
 {
-    let named = Name::of(SmallVec::from_slice(alloc, name)?);
+    let named = Name::of(alloc, name)?;
     inst(alloc, Some(named), Op::Phi, ty, operands, labels)
 }
 
@@ -263,8 +263,8 @@ pub(crate) fn numbered_name(alloc: Global, front: &[u8], number: u32) -> Result<
     ensures { IfOk result (λ name. name ≡ numbered_name front.now number) }
 {
     let mut buffer = Buffer::new();
-    let mut bytes = SmallVec::new(alloc);
+    let mut bytes = SmallVec::<u8, 16>::new(alloc);
     bytes.extend_from_slice(front)?;
     bytes.extend_from_slice(buffer.format(number).as_bytes())?;
-    Ok(Name::of(bytes))
+    Ok(Name::of(alloc, bytes.as_slice())?)
 }

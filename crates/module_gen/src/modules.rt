@@ -28,7 +28,7 @@ fn node(alloc: Global) -> Result<Layout, Memory>
     ensures { IfOk result (λ layout. layout ≡ node) }
 {
     Ok(Layout::of(
-        Name::of(SmallVec::from_slice(alloc, b"N")?),
+        Name::of(alloc, b"N")?,
         Vec::from_slice(alloc, &[Cell::I64, Cell::Ptr])?,
     ))
 }

@@ -304,6 +304,6 @@ fn block(alloc: Global, name: &[u8], lines: &[Line<'_>]) -> Result<Block, Memory
     requires { EndsAtTerminator (map written lines.now) }
     ensures { IfOk result (λ made. made ≡ record { name = name.now; insts = map written lines.now }) }
 {
-    let named = Name::of(SmallVec::from_slice(alloc, name)?);
+    let named = Name::of(alloc, name)?;
     Ok(Block::of(named, write_all(alloc, lines)?))
 }

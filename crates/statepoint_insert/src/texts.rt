@@ -141,8 +141,8 @@ fn name(alloc: Global, front: &[u8], number: u32) -> Result<Name, Memory>
     ensures { IfOk result (λ name. name ≡ front.now ++ decimal number) }
 {
     let mut buffer = Buffer::new();
-    let mut bytes = SmallVec::new(alloc);
+    let mut bytes = SmallVec::<u8, 16>::new(alloc);
     bytes.extend_from_slice(front)?;
     bytes.extend_from_slice(buffer.format(number).as_bytes())?;
-    Ok(Name::of(bytes))
+    Ok(Name::of(alloc, bytes.as_slice())?)
 }

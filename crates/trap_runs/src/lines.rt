@@ -35,7 +35,7 @@ pub(crate) fn inst_of(alloc: Global, line: &str) -> Result<Inst> {
 
 /// A name.
 pub(crate) fn name_of(alloc: Global, spelled: &str) -> Result<Name> {
-    Ok(Name::of(SmallVec::from_slice(alloc, spelled.as_bytes())?))
+    Ok(Name::of(alloc, spelled.as_bytes())?)
 }
 
 fn op_of(word: &str, types: Types) -> Result<Op> {
