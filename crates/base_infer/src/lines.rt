@@ -1,6 +1,7 @@
 //! The lines that stand for one instruction.
 
-ghost use Rattle.std.specs.Prelude.{◌≡◌, ◌++◌, [], ◌∷◌, if◌then◌else◌, IfOk};
+ghost use Rattle.std.specs.Prelude.{◌≡◌, ◌++◌, List, [], ◌∷◌, if◌then◌else◌, IfOk, OnOk};
+ghost use Rattle.ir_ast.specs.Insts.{Instruction};
 ghost use Rattle.ir_ast.specs.declared.ops.Op.{Op};
 ghost use Rattle.base_forms.specs.Lines.{operand_at, kept_line, base_line, check, compared, compared_equal, compared_unequal, lines_for};
 ghost use Rattle.base_infer.specs.Before.{lines_before, derived_relation, stands_alone};
@@ -168,8 +169,19 @@ fn push_kept(
 ) -> Result<(), Memory>
     ensures { IfOk result (λ _. lines.new.items ≡ lines.old.items ++ kept_line (tabled tables.now) inst ∷ []) }
 {
-    let pushed = lines.push_mut(inst)?;
-    renumber_inst(alloc, tables, pushed)
+    lines.push(inst)?;
+    renumber_last(alloc, tables, lines)
+}
+
+// Gives the last line the new numbers, where it stands.
+#[inline(always)]
+fn renumber_last(alloc: Global, tables: &Tables, lines: &mut Vec<Inst>) -> Result<(), Memory>
+    ensures { (front : List Instruction) (inst : Instruction) → lines.old.items ≡ front ++ inst ∷ [] → OnOk result (lines.new.items ≡ front ++ kept_line (tabled tables.now) inst ∷ []) }
+{
+    match lines.last_mut() {
+        Some(inst) => renumber_inst(alloc, tables, inst),
+        None => Ok(()),
+    }
 }
 
 // The base of a phi or select, where that is derived.
