@@ -25,3 +25,4 @@ pub mod Faultless
 pub mod Callees
 pub mod Bundles
 pub mod Objects
+pub mod Spellings

@@ -1,7 +1,7 @@
 //! The parts that modules are made from, each made and taken apart.
 
 use anyhow::Result;
-use ir_ast::{BaseTable, Cell, Layout, LiveTable, Name, NameBytes, Operand, Ty, Types};
+use ir_ast::{BaseTable, Cell, Layout, LiveTable, Name, Operand, Ty, Types};
 use sp_ids::ValueId;
 use std::alloc::Global;
 
@@ -26,7 +26,7 @@ fn show_cells(rt: &impl Print, alloc: Global) -> Result<()> {
 
 fn show_lists(rt: &impl Print, alloc: Global) -> Result<()> {
     let name = name_of(alloc, b"a.b")?;
-    let bytes = name.into_parts();
+    let bytes = name.bytes();
     println!(rt; "name: {bytes:?}")?;
     let types = Types::of(alloc, &[Ty::Void, Ty::Ptr])?;
     let list = types.list();
@@ -38,7 +38,7 @@ fn show_lists(rt: &impl Print, alloc: Global) -> Result<()> {
 }
 
 fn name_of(alloc: Global, bytes: &[u8]) -> Result<Name> {
-    Ok(Name::of(NameBytes::from_slice(alloc, bytes)?))
+    Ok(Name::of(alloc, bytes)?)
 }
 
 fn show_tables(rt: &impl Print, alloc: Global) -> Result<()> {

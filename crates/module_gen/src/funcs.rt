@@ -12,7 +12,6 @@ use crate::draws::Draws;
 use crate::lines::{Line, numbered_name, write};
 use crate::shapes::{Shape, body};
 use ir_ast::{Arg, Block, Func, Inst, Name, Operand, Ty};
-use smallvec::SmallVec;
 use sp_ids::{FuncId, Memory, ValueId};
 use std::alloc::Global;
 

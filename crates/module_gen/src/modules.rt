@@ -4,7 +4,6 @@ ghost use Rattle.generated_forms.specs.Modules.{node, generated};
 
 use crate::funcs::{functions, main_function};
 use ir_ast::{Cell, Form, Layout, Module, Name};
-use smallvec::SmallVec;
 use sp_ids::Memory;
 use std::alloc::Global;
 

@@ -8,7 +8,6 @@ ghost use Rattle.generated_forms.specs.Bodies.{shape_of, bound_of, body};
 
 use crate::lines::{Line, write_all};
 use ir_ast::{Block, Name, Operand, Ty};
-use smallvec::SmallVec;
 use sp_ids::{BlockId, FuncId, Memory, ValueId};
 use std::alloc::Global;
 
