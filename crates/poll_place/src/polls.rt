@@ -37,7 +37,7 @@ fn place_all(alloc: Global, funcs: Vec<Func>) -> Result<Vec<Func>, Memory>
     Ok(after)
 }
 
-/// The function with its polls, likewise; blocks that it doesn't reach keep theirs. Where memory is wanted the function is gone.
+/// The function with its polls, as in [`place`]. Where memory is wanted the function is gone.
 pub fn place_func(alloc: Global, func: Func) -> Result<Func, Memory>
     requires { HasFewLines func.content }
     ensures content { IfOk result (λ after. after.content ≡ placed func.content) }
