@@ -1,5 +1,5 @@
 -- The numbers of names behind the first line, and the row that has them.
-use Rattle.std.proofs.Common.{◌≡◌, ◌∙◌, ℕ, zero, suc, ◌<◌, ◌≤◌, ◌+◌, ◌-◌, inl, inr, Bool, true, false, eqb, ◌||◌, if◌then◌else◌, List, [], ◌∷◌, ◌++◌, length, map, filter, drop, Option, Some, is_some, slice_get, refl, ap, sym, arith, append_assoc, append-nil, length-append}
+use Rattle.std.proofs.Common.{◌≡◌, ◌∙◌, ℕ, zero, suc, ◌<◌, ◌≤◌, ◌+◌, ◌-◌, inl, inr, ◌⊎◌, Bool, true, false, eqb, ◌&&◌, ◌||◌, if◌then◌else◌, List, [], ◌∷◌, ◌++◌, length, map, filter, drop, Option, Some, None, is_some, slice_get, refl, ap, sym, arith, append_assoc, append-nil, length-append}
 use Rattle.std.specs.Prelude.{slice_index, slice_set}
 use Rattle.std.specs.List.{list_any, flat_map, range_with_len}
 use Rattle.std.specs.Option.{option_map_or}
@@ -13,9 +13,9 @@ use Rattle.ir_ast.specs.declared.ops.Operand.{Operand}
 use Rattle.ir_ast.specs.Insts.{Instruction}
 use Rattle.ir_ast.specs.Blocks.{BasicBlock}
 use Rattle.ir_ast.specs.Funcs.{Function, instructions_of}
-use Rattle.object_meaning.specs.Lines.{Line, after_all, registers_of, insts_in}
+use Rattle.object_meaning.specs.Lines.{Line, following, after_all, first_registers, registers_of, insts_in}
 use Rattle.object_meaning.specs.TargetRuns.{plain_lines}
-use Rattle.rewriting_forms.specs.Numbered.{among, lines_at, line_at, pointers}
+use Rattle.rewriting_forms.specs.Numbered.{among, lines_at, line_at, calls, pointers}
 use Rattle.rewriting_forms.specs.Liveness.{live_list}
 use Rattle.rewriting_forms.specs.Names.{Name, own, relocated, joined, token, Naming, joins_of, naming_of}
 use Rattle.rewriting_forms.specs.Rewritten.{place_in, line_names, joined_at, block_names, names_of}
@@ -26,7 +26,7 @@ use Rattle.statepoint_insert.specs.declared.groups.Relocate.{Relocate}
 use Rattle.statepoint_insert.specs.Groups.{relocate_in}
 use Rattle.ssa_rebuild.proofs.TaskLaws.{results, after_is, first_next, first_zero}
 use Rattle.entry_groups.specs.Entry.{moved, behind_group}
-use Rattle.entry_groups.proofs.VersionLaws.{Parts, whole, WaitsFirst, calls_first, calls_no, no_joins, settled, settled_own}
+use Rattle.entry_groups.proofs.VersionLaws.{Parts, first_of, entry_of, whole, WaitsFirst, first_line, calls_first, calls_no, no_joins, settled, settled_own}
 
 -- ---- lists
 

@@ -1,5 +1,5 @@
 -- The text of a function that waits at its first line alone.
-use Rattle.std.proofs.Common.{◌≡◌, ◌∙◌, ℕ, suc, ◌<◌, ◌+◌, inl, inr, Bool, true, if◌then◌else◌, List, [], ◌∷◌, ◌++◌, length, map, filter, take, drop, Option, Some, None, is_some, slice_get, refl, ap, sym, arith, subst, length-append}
+use Rattle.std.proofs.Common.{◌≡◌, ◌∙◌, ℕ, zero, suc, ◌<◌, ◌≤◌, ◌+◌, inl, inr, ◌⊎◌, Bool, true, false, not, if◌then◌else◌, List, [], ◌∷◌, ◌++◌, length, map, filter, take, drop, Option, Some, None, is_some, slice_get, refl, ap, sym, arith, subst, length-append}
 use Rattle.std.specs.Prelude.{slice_index}
 use Rattle.std.specs.List.{All, sum_by}
 use Rattle.std.specs.Option.{option_map, option_map_or}
@@ -19,15 +19,15 @@ use Rattle.ir_ast.specs.Blocks.{BasicBlock}
 use Rattle.ir_ast.specs.Funcs.{Function, instructions_of}
 use Rattle.ir_ast.specs.Formed.{IsFormed}
 use Rattle.ir_ast.specs.Lines.{LineOf, IsLine}
-use Rattle.ir_ast.specs.Values.{argument, outcome}
+use Rattle.ir_ast.specs.Values.{definitions_of, argument, outcome}
 use Rattle.ir_ast.specs.Faults.PhiEdges.{is_phi}
 use Rattle.ir_ast.specs.Faults.UnknownName.{NamesOfFunction}
 use Rattle.object_meaning.specs.Lines.{Line, numbered, following, registers_of, insts_in}
 use Rattle.object_meaning.specs.TargetRuns.{plain_lines}
 use Rattle.rewriting_forms.specs.Numbered.{named, among, lines_at}
 use Rattle.rewriting_forms.specs.Liveness.{live_list, live_lists}
-use Rattle.rewriting_forms.specs.Names.{Name, own, Names, Naming, names_at, names_at_end, naming_of}
-use Rattle.rewriting_forms.specs.Rewritten.{place_in, names_of, renamed, Piece, inserted_phi, statepoint, group, phi_operands, plain, expanded_by, expanded, pieces_of, old_name, spelled, piece_inst, rewritten_blocks, rewritten}
+use Rattle.rewriting_forms.specs.Names.{Name, own, token, Names, Naming, names_at, names_at_end, naming_of}
+use Rattle.rewriting_forms.specs.Rewritten.{place_in, names_of, renamed, Piece, inserted_phi, statepoint, group, phi_operands, renamed_inst, plain, expanded_by, expanded, pieces_of, old_name, spelled, piece_inst, rewritten_blocks, rewritten}
 use Rattle.rewriting_laws.proofs.NameLemmas.{among_here, among_there, at_rest}
 use Rattle.rewriting_laws.proofs.JumpLemmas.{one_piece}
 use Rattle.live_sets.proofs.UseLemmas.{line_back}
@@ -41,7 +41,7 @@ use Rattle.ssa_rebuild.proofs.GroupLaws.{group_text}
 use Rattle.ssa_rebuild.proofs.InsideLaws.{count, count_is, uses_inside}
 use Rattle.ssa_rebuild.proofs.TaskLaws.{results}
 use Rattle.entry_groups.specs.Entry.{put, put_line, put_block, group_values, first_lines, blocks_behind}
-use Rattle.entry_groups.proofs.VersionLaws.{Parts, first_of, whole, WaitsFirst, first_line, calls_first, others, settled, settled_at, settled_end, enters}
+use Rattle.entry_groups.proofs.VersionLaws.{Parts, first_of, entry_of, whole, WaitsFirst, first_line, calls_first, others, settled, settled_at, settled_end, enters}
 use Rattle.entry_groups.proofs.NumberLaws.{drop_none, joined_none, argument_number, token_number, row, row_is}
 
 none_taken : {A : Type 0} (xs : List A) → take 0 xs ≡ []
