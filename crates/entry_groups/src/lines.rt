@@ -136,7 +136,7 @@ pub(crate) fn entry_lines(
 }
 
 // The lines with others in place of the first, and with new numbers behind these. Where their list has room they are moved up in it, and no
-// memory is touched anew. They are moved first, since so many are no longer near at hand, and read in the order in which they lie then.
+// memory is touched anew. They are moved before they get their numbers: the move fetches a long list, and the numbers find it in the cache.
 fn with_front(
     alloc: Global,
     row: &[u32],

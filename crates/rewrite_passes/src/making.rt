@@ -47,6 +47,7 @@ fn before(alloc: Global, func: Func, left: u64) -> Result<(Before, Option<u64>),
     with_tables(alloc, polled, left)
 }
 
+// The same of a function that has its polls.
 fn with_tables(alloc: Global, polled: Func, left: u64) -> Result<(Before, Option<u64>), Memory>
     requires { CanBeMade polled.content }
     ensures made { IfOk result (λ made. made.0 ≡ made_of polled.content) }
