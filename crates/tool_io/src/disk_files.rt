@@ -5,12 +5,12 @@ ghost use Rattle.tool_io.specs.Counts.{Rose};
 use crate::{Files, TakeFault};
 use std::alloc::Global;
 use std::fs::{File, OpenFile};
-use std::io::Read;
+use std::io::{ErrorKind, Input, Read};
 use std::marker::Model;
 use std::rt;
 
-/// The files of the system, by their paths. It is seen as its count of faults, one for all names,
-/// and tells no contents.
+/// The files of the system, by their paths; `-` is standard input, where no file has this name. It
+/// is seen as its count of faults, one for all names, and tells no contents.
 #[derive(Drop)]
 pub struct DiskFiles<R> {
     rt: R,
@@ -25,8 +25,8 @@ impl<R> Model for DiskFiles<R> {
     ghost view = { λ files. files.faults };
 }
 
-impl<R: rt::Files> DiskFiles<R> {
-    /// The files that this runtime reaches.
+impl<R: rt::Files + Input> DiskFiles<R> {
+    /// The files and the standard input that this runtime reaches.
     pub fn new(rt: R) -> DiskFiles<R>
         ensures { result ≡ 0 }
     {
@@ -36,13 +36,20 @@ impl<R: rt::Files> DiskFiles<R> {
     fn read(&self, alloc: Global, name: &str, limit: u64) -> Result<Vec<u8>, TakeFault>
         ensures { IfOk result (λ bytes. vec_len bytes ≤ limit) }
     {
-        let mut file = File::open(&self.rt, name).map_err(|_| TakeFault::Failed)?;
-        let known = file.metadata().map_or(0, |metadata| metadata.len());
-        read_within(alloc, &mut file, known.min(limit), limit)
+        match File::open(&self.rt, name) {
+            Ok(mut file) => {
+                let known = file.metadata().map_or(0, |metadata| metadata.len());
+                read_within(alloc, &mut file, known.min(limit), limit)
+            }
+            Err(error) if name == "-" && error.kind() == ErrorKind::NotFound => {
+                read_within(alloc, &mut self.rt.reader(), 0, limit)
+            }
+            Err(_) => Err(TakeFault::Failed),
+        }
     }
 }
 
-impl<R: rt::Files> Files for DiskFiles<R> {
+impl<R: rt::Files + Input> Files for DiskFiles<R> {
     ghost contents = { λ _ _. None };
 
     ghost faults = { λ count _. count };
