@@ -1,5 +1,7 @@
 -- What several calls on a sink add together.
-use Rattle.std.proofs.Common.{◌≡◌, ℕ, List, [], ◌++◌, Option, Some, None, Result, Ok, Err, OnErr, refl, sym, ◌∙◌, ap, append-nil, append_assoc, take, drop, take-append-drop}
+use Rattle.std.proofs.Common.{◌≡◌, ℕ, List, [], ◌∷◌, ◌++◌, Option, Some, None, Result, Ok, Err, OnErr, refl, sym, ◌∙◌, ap, append-nil, append_assoc, take, drop, take-append-drop}
+use Rattle.std.proofs.lemmas.List.Folds.{concat-append}
+use Rattle.std.specs.List.{concat}
 use Rattle.tool_io.specs.Sink.{append_known, AppendsFront}
 
 -- the sink grew by what stands before `left` in `whole`
@@ -12,6 +14,10 @@ pub record AppendsBefore (old new : Option (List ℕ)) (whole left : List ℕ) :
 pub append_known-nil : (old : Option (List ℕ)) → append_known old [] ≡ old
 append_known-nil None = refl
 append_known-nil (Some held) = ap Some (append-nil held)
+
+-- the bytes of some pieces and one more
+pub concat-add : (pieces : List (List ℕ)) (piece : List ℕ) → concat (pieces ++ piece ∷ []) ≡ concat pieces ++ piece
+concat-add pieces piece = concat-append pieces (piece ∷ []) ∙ ap (λ rest. concat pieces ++ rest) (append-nil piece)
 
 -- two pieces, one after the other
 pub append_known-append_known : (old : Option (List ℕ)) (first second : List ℕ) → append_known (append_known old first) second ≡ append_known old (first ++ second)

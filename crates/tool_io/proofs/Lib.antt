@@ -1,3 +1,4 @@
 pub mod AppendLaws
 pub mod CountLaws
 pub mod KnownLaws
+pub mod TakeLaws

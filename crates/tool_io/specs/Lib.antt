@@ -2,5 +2,8 @@ pub mod Adapters
 pub mod Counts
 pub mod FilesInMemory
 pub mod NamedFiles
+pub mod NotedPieces
 pub mod Sink
 pub mod SinkInMemory
+pub mod Takes
+pub mod Told

@@ -1,3 +1,4 @@
+//! Files of the system, taken by their paths.
 ghost use Rattle.std.specs.Prelude.{◌≡◌, ◌+◌, ◌<◌, ◌≤◌, ◌≢◌, None, Err, length, vec_len, IfOk, IfSome, IsErrOf};
 ghost use Rattle.tool_io.specs.Adapters.{GivesCount};
 ghost use Rattle.tool_io.specs.Counts.{Rose};
@@ -53,6 +54,8 @@ impl<R: rt::Files + Input> Files for DiskFiles<R> {
     ghost contents = { λ _ _. None };
 
     ghost faults = { λ count _. count };
+
+    ghost taken = { λ _. None };
 
     fn take(&mut self, alloc: Global, name: &str, limit: u64) -> Result<Vec<u8>, TakeFault>
         ensures counts { self.old ≤ self.new }

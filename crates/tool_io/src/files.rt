@@ -1,5 +1,7 @@
+//! Files that are taken whole, by name.
 ghost use Rattle.std.specs.Prelude.{◌≡◌, ◌≤◌, ◌<◌, ℕ, List, Option, length, vec_len, IfOk, IfSome, IsErrOf};
 ghost use Rattle.tool_io.specs.Counts.{Rose, NoneFell};
+ghost use Rattle.tool_io.specs.Takes.{after_taking};
 
 use std::alloc::{AllocError, AllocFailed, Global};
 use std::error::Error;
@@ -7,14 +9,18 @@ use std::fmt;
 
 /// Files that are taken whole, by name.
 ///
-/// They have two meanings: the contents by name, where they are told, and for each name a count of
-/// faults that never falls.
+/// They have three meanings: the contents by name, where they are told, for each name a count of
+/// faults that never falls, and the names of the files that were taken so far, where they are told.
 pub trait Files {
     /// The contents of each file, where they are told.
     ghost contents: { Self → List ℕ → Option (List ℕ) };
 
     /// The faults that were counted for each name. A count stands still at 2^64 - 1.
     ghost faults: { Self → List ℕ → ℕ };
+
+    /// The names of the files that were taken so far, in order, where they are told: one for each call
+    /// of `take` that didn't want memory.
+    ghost taken: { Self → Option (List (List ℕ)) };
 
     /// The contents of the file `name`, which may have at most `limit` bytes.
     ///
@@ -28,7 +34,8 @@ pub trait Files {
         ensures told { IfOk result (λ bytes. IfSome (contents self.old name.now) (λ told. bytes.items ≡ told)) }
         ensures fits { IfOk result (λ _. IfSome (contents self.old name.now) (λ told. length told ≤ limit)) }
         ensures too_long { IsErrOf result TakeFault.TooLong → IfSome (contents self.old name.now) (λ told. limit < length told) }
-        ensures failed { IsErrOf result TakeFault.Failed → Rose (faults self.old name.now) (faults self.new name.now) };
+        ensures failed { IsErrOf result TakeFault.Failed → Rose (faults self.old name.now) (faults self.new name.now) }
+        ensures noted { taken self.new ≡ after_taking result (taken self.old) name.now };
 }
 
 /// Why a file could not be taken.

@@ -1,4 +1,5 @@
-ghost use Rattle.std.specs.Prelude.{◌≡◌, ◌++◌, ◌∷◌, ◌≤◌, ◌<◌, ◌↔◌, [], length, vec_len, IfOk, IfSome, IsErrOf, IsNone, IsTrue, OnOk, OnErr};
+//! Files in memory that fail where they were told to.
+ghost use Rattle.std.specs.Prelude.{◌≡◌, ◌++◌, ◌∷◌, ◌≤◌, ◌<◌, ◌↔◌, [], length, vec_len, None, IfOk, IfSome, IsErrOf, IsNone, IsTrue, OnOk, OnErr};
 ghost use Rattle.tool_io.specs.Counts.{raised, Rose, NoneFell};
 ghost use Rattle.tool_io.specs.NamedFiles.{contents_of};
 ghost use Rattle.tool_io.specs.FilesInMemory.{no_files, with_fault, with_file, faults_of, fails_at, after_take};
@@ -99,6 +100,8 @@ impl Files for MemFiles {
     ghost contents = { λ held. contents_of held.files };
 
     ghost faults = { faults_of };
+
+    ghost taken = { λ _. None };
 
     fn take(&mut self, alloc: Global, name: &str, limit: u64) -> Result<Vec<u8>, TakeFault>
         ensures fails { IsErrOf result TakeFault.Failed ↔ IsTrue (fails_at self.old (raised self.old.calls) name.now) }

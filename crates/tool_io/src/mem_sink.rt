@@ -1,4 +1,5 @@
-ghost use Rattle.std.specs.Prelude.{◌≡◌, ◌++◌, ◌∷◌, ◌↔◌, ◌≤◌, [], Some, IfOk, OnOk, OnErr, IsErr, IsSome, IsNone};
+//! A sink in memory that keeps its bytes and fails where it was told to.
+ghost use Rattle.std.specs.Prelude.{◌≡◌, ◌++◌, ◌∷◌, ◌↔◌, ◌≤◌, [], Some, None, IfOk, OnOk, OnErr, IsErr, IsSome, IsNone};
 ghost use Rattle.tool_io.specs.Counts.{Rose};
 ghost use Rattle.tool_io.specs.Sink.{append_known, AppendsFront};
 ghost use Rattle.tool_io.specs.SinkInMemory.{adds_of, cut_of, after_put};
@@ -83,6 +84,8 @@ fn adds(failing: &[FailingPut], call: u64) -> Option<usize>
 
 impl Sink for MemSink {
     ghost written = { λ sink. Some sink.bytes };
+
+    ghost puts = { λ _. None };
 
     ghost faults = { λ sink. sink.faults };
 

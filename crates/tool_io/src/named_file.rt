@@ -1,3 +1,4 @@
+//! A file in memory, found by its name.
 ghost use Rattle.std.specs.Prelude.{◌≡◌, ◌<◌, ◌≤◌, ◌≢◌, length, position, option_copied, Err, IfOk, OnOk, IsErrOf};
 ghost use Rattle.std.specs.Str.{bytes_eq};
 ghost use Rattle.tool_io.specs.NamedFiles.{contents_of};

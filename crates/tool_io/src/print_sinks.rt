@@ -1,3 +1,4 @@
+//! Standard output and standard error as sinks.
 ghost use Rattle.std.specs.Prelude.{◌≡◌, ◌≤◌, None, OnOk, OnErr};
 ghost use Rattle.std.specs.Io.KnownBytes.{Appends};
 ghost use Rattle.tool_io.specs.Counts.{raised, Rose};
@@ -62,6 +63,8 @@ impl<W: Write> NoteSink<W> {
 impl<W: Write> Sink for OutSink<W> {
     ghost written = { λ _. None };
 
+    ghost puts = { λ _. None };
+
     ghost faults = { λ sink. sink.faults };
 
     fn put(&mut self, bytes: &[u8]) -> Result<(), Failed>
@@ -77,6 +80,8 @@ impl<W: Write> Sink for OutSink<W> {
 
 impl<W: Write> Sink for NoteSink<W> {
     ghost written = { λ _. None };
+
+    ghost puts = { λ _. None };
 
     ghost faults = { λ sink. sink.faults };
 

@@ -1,3 +1,4 @@
+//! A sink that never fails.
 ghost use Rattle.std.specs.Prelude.{None, IsOk};
 
 use crate::{Failed, Sink};
@@ -15,6 +16,8 @@ impl SureSink {
 
 impl Sink for SureSink {
     ghost written = { λ _. None };
+
+    ghost puts = { λ _. None };
 
     ghost faults = { λ _. 0 };
 
