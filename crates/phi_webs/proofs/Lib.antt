@@ -1,1 +1,6 @@
 pub mod Examples
+pub mod TestLemmas
+pub mod RemovalLaws
+pub mod OnlyLemmas
+pub mod BecomesLaws
+pub mod RenamingLaws

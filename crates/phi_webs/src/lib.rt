@@ -1,2 +1,9 @@
 //! Webs of phis, and what each name becomes where phis that no name needs are removed.
 #![tactic(auto)]
+
+mod laws;
+
+pub use laws::{
+    absorbs, becomes_the_end, kept_are_open, order_is_free, removed_are_solved, renaming_commutes,
+    shared_is_kept, stays,
+};
