@@ -63,5 +63,8 @@ attributes #3 = { nounwind }
 
 !0 = !{i32 1, !"wchar_size", i32 4}
 !1 = !{!"clang version 18.1.3"}
-!2 = !{!"long", !0, i64 0}
+!2 = !{!4, !4, i64 0}
 !3 = !{!"branch_weights", i32 1, i32 5, i32 9}
+!4 = !{!"long", !5, i64 0}
+!5 = !{!"omnipotent char", !6, i64 0}
+!6 = !{!"Simple C/C++ TBAA"}
