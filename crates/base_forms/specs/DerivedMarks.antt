@@ -1,14 +1,12 @@
 -- Which values are derived, as a table (Garbage Collection Safepoints in LLVM, "Base & Derived Pointers").
-use Rattle.std.specs.Prelude.{◌≡◌, ℕ, zero, suc, Bool, true, false, ◌&&◌, ◌||◌, List, [], length, map, Some, slice_get, slice_index_or}
+use Rattle.std.specs.Prelude.{◌≡◌, ℕ, zero, suc, Bool, true, false, ◌&&◌, ◌||◌, List, [], length, map, Some, slice_get}
 use Rattle.std.specs.List.{list_any}
 use Rattle.ir_ast.specs.Insts.{Instruction}
 use Rattle.ir_ast.specs.Funcs.{Function}
 use Rattle.ir_ast.specs.Values.{Definition, argument, outcome, definitions_of}
 use Rattle.ir_ast.specs.Operands.{values_used}
 use Rattle.ir_ast.specs.Derived.{is_step, is_merge, Derived}
-
-abbrev pub has_mark : List Bool → ℕ → Bool
-has_mark marks value = slice_index_or marks value false
+pub use Rattle.ir_ast.specs.Lists.{has_mark}
 
 -- the instruction uses a value with a mark
 abbrev pub uses_marked : List Bool → Instruction → Bool

@@ -16,7 +16,7 @@ pub same_instruction : (func : Function) (value : ℕ) (inst other : Instruction
 same_instruction func value inst other p q = cc
 
 -- no operator both steps and merges
-steps_or_merges : (op : Op) → is_step op ≡ true → is_merge op ≡ true → ⊥
+pub steps_or_merges : (op : Op) → is_step op ≡ true → is_merge op ≡ true → ⊥
 steps_or_merges Phi step merge = cc
 steps_or_merges Select step merge = cc
 steps_or_merges _ step merge = cc

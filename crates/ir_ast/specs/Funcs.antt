@@ -1,8 +1,10 @@
 -- What a contract sees of a `Func`: its content, and its lines beside it.
-use Rattle.std.specs.Prelude.{◌≡◌, ℕ, ◌^◌, ◌<◌, List, [], ◌∷◌, length, replicate}
-use Rattle.std.specs.List.{flat_map}
+use Rattle.std.specs.Prelude.{◌≡◌, ℕ, ◌^◌, ◌<◌, List, [], ◌∷◌, length, replicate, slice_get}
+use Rattle.std.specs.List.{flat_map, prefix_len}
+use Rattle.std.specs.Option.{option_map_or}
 use Rattle.ir_ast.specs.declared.types.Ty.{Ty}
 use Rattle.ir_ast.specs.declared.funcs.Arg.{Arg}
+use Rattle.ir_ast.specs.Ops.{is_phi}
 use Rattle.ir_ast.specs.Insts.{Instruction}
 use Rattle.ir_ast.specs.Blocks.{BasicBlock}
 
@@ -19,6 +21,18 @@ pub record LinedFunction : Type 0 where
 -- the instructions of these blocks in text order
 abbrev pub instructions_of : List BasicBlock → List Instruction
 instructions_of blocks = flat_map (λ block. block.insts) blocks
+
+-- the instructions of a block, none where there is no such block
+abbrev pub insts_in : Function → ℕ → List Instruction
+insts_in func number = option_map_or (λ block. block.insts) (slice_get func.blocks number) []
+
+-- how many phis stand before the first other instruction
+abbrev pub phis_of : List Instruction → ℕ
+phis_of insts = prefix_len (λ inst. is_phi inst.op) insts
+
+-- the lines of a function that wasn't read
+abbrev pub zeros_of : Function → List ℕ
+zeros_of func = replicate (length (instructions_of func.blocks)) 0
 
 -- the lines where they are kept, or else 0 for each instruction
 abbrev pub lines_or_zeros : List BasicBlock → List ℕ → List ℕ

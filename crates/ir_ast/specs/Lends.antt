@@ -1,4 +1,4 @@
--- What an instruction ends as, where a `&mut` to its operands or to its bundle is returned.
+-- What an instruction ends as, where a `&mut` to its operands is returned.
 use Rattle.std.specs.Prelude.{List, length}
 use Rattle.std.specs.List.{refill}
 use Rattle.std.specs.Borrow.{Lends, MutBor, Fml, Array}

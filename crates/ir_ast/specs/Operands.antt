@@ -1,8 +1,9 @@
 -- Classes of operands, and what an instruction names.
-use Rattle.std.specs.Prelude.{ℕ, Bool, true, false, List, [], ◌∷◌, ◌++◌, map, Option, Some, None}
+use Rattle.std.specs.Prelude.{ℕ, ◌==◌, Bool, true, false, List, [], ◌∷◌, ◌++◌, length, take, drop, map, slice_index_or, Option, Some, None}
 use Rattle.std.specs.List.{filter_map}
+use Rattle.sp_ids.specs.declared.ids.ValueId.{ValueId}
 use Rattle.ir_ast.specs.declared.ops.Operand.{Operand}
-use Rattle.ir_ast.specs.declared.ops.Operand.TheVariants.{Value, Int, Fun}
+use Rattle.ir_ast.specs.declared.ops.Operand.TheVariants.{Value, Int, Null, Fun}
 use Rattle.ir_ast.specs.declared.ops.Callee.{Callee}
 use Rattle.ir_ast.specs.declared.ops.Callee.TheVariants.{Fun as Defined, New}
 use Rattle.ir_ast.specs.declared.ops.Elem.TheVariants.{Layout}
@@ -19,9 +20,57 @@ abbrev pub is_literal : Operand → Bool
 is_literal (Int number) = true
 is_literal _ = false
 
+abbrev pub is_null : Operand → Bool
+is_null Null = true
+is_null _ = false
+
+-- the same value, the same literal, or both `null`
+abbrev pub same_operand : Operand → Operand → Bool
+same_operand (Value value) (Value other) = value.0 == other.0
+same_operand (Int number) (Int other) = number == other
+same_operand Null Null = true
+same_operand _ _ = false
+
+-- the value with this number, as an identity and as an operand
+abbrev pub valued : ℕ → ValueId
+valued number = record { 0 = number }
+
+abbrev pub named : ℕ → Operand
+named value = Value (record { 0 = value })
+
+-- the operand at a place, or the literal 0 where there is none
+abbrev pub operand_at : List Operand → ℕ → Operand
+operand_at operands place = slice_index_or operands place (Int 0)
+
+-- the number of a literal, or 0
+abbrev pub index_in : Option Operand → ℕ
+index_in (Some (Int place)) = place
+index_in _ = 0
+
 -- all operands, those of the bundle too
 abbrev pub operands_of : Instruction → List Operand
 operands_of inst = inst.operands ++ map (λ entry. entry.1) inst.bundle
+
+-- the arguments of a call or a statepoint
+abbrev arguments_in : Op → List Operand → List Operand
+arguments_in (Statepoint id callee types) operands = take (length types) operands
+arguments_in op operands = operands
+
+abbrev pub arguments_of : Instruction → List Operand
+arguments_of inst = arguments_in inst.op inst.operands
+
+-- the "gc-live" entries of a statepoint, which stand after its arguments
+abbrev pub live_entries : Op → List Operand → List Operand
+live_entries (Statepoint id callee types) operands = drop (length types) operands
+live_entries op operands = []
+
+abbrev pub entries_of : Instruction → List Operand
+entries_of inst = live_entries inst.op inst.operands
+
+-- the value that an operand names
+abbrev pub value_named : Operand → Option ValueId
+value_named (Value value) = Some value
+value_named _ = None
 
 abbrev pub value_in : Operand → Option ℕ
 value_in (Value value) = Some value.0

@@ -1,3 +1,5 @@
+//! Basic blocks.
+
 ghost use Rattle.std.specs.Prelude.{◌≡◌};
 ghost use Rattle.ir_ast.specs.Blocks.{EndsAtTerminator};
 

@@ -1,3 +1,5 @@
+//! What one field of an object holds.
+
 ghost use Rattle.std.specs.Prelude.{◌≡◌, ◌≢◌, IfSome, IfNone};
 
 use crate::types::Ty;

@@ -1,3 +1,5 @@
+//! Copies that need memory.
+
 ghost use Rattle.std.specs.Prelude.{◌≡◌, IfOk};
 
 use sp_ids::Memory;

@@ -1,8 +1,11 @@
+//! Functions and their arguments.
+
 ghost use Rattle.std.specs.Prelude.{◌≡◌, length, replicate, slice_index};
-ghost use Rattle.ir_ast.specs.Funcs.{instructions_of, IsSmall};
+ghost use Rattle.ir_ast.specs.Funcs.{instructions_of, insts_in, IsSmall};
 
 use crate::blocks::Block;
 use crate::clones::{TryClone, try_clone_all};
+use crate::insts::Inst;
 use crate::names::Name;
 use crate::types::Ty;
 use sp_ids::Memory;
@@ -113,6 +116,16 @@ impl Func {
         ensures small { IsSmall self.now.content.args self.now.content.blocks }
     {
         self.blocks.as_slice()
+    }
+
+    /// The instructions of a block, none where it has no such block.
+    pub fn insts_in(&self, block: u32) -> &[Inst]
+        ensures { result.now ≡ insts_in self.now.content block }
+    {
+        match self.blocks.get(block as usize) {
+            None => &[],
+            Some(block) => block.insts(),
+        }
     }
 
     /// The line of the instruction with this number, from 0 in text order, or 0 where the function

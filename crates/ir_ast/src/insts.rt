@@ -1,6 +1,10 @@
-ghost use Rattle.std.specs.Prelude.{◌≡◌};
+//! Instructions: their parts, and what other crates ask of them.
+
+ghost use Rattle.std.specs.Prelude.{◌≡◌, ◌≤◌, drop, length, slice_get, take, OnErr, OnOk};
 ghost use Rattle.std.specs.Borrow.{sem};
+ghost use Rattle.ir_ast.specs.Funcs.{phis_of};
 ghost use Rattle.ir_ast.specs.Lends.{lends_operands};
+ghost use Rattle.ir_ast.specs.Operands.{arguments_of, entries_of, index_in, operand_at};
 
 use crate::clones::TryClone;
 use crate::names::Name;
@@ -104,6 +108,58 @@ impl Inst {
         self.operands.as_slice()
     }
 
+    /// The operand at a place, or the literal 0 where there is none.
+    pub fn operand_at(&self, place: usize) -> Operand
+        ensures { result ≡ operand_at self.now.operands place }
+    {
+        self.operands()
+            .get(place)
+            .copied()
+            .unwrap_or(Operand::Int(0))
+    }
+
+    /// The literal at a place of its operands, or 0 where there is none.
+    pub fn index_at(&self, place: usize) -> u64
+        ensures { result ≡ index_in (slice_get self.now.operands place) }
+    {
+        match self.operands().get(place) {
+            Some(Operand::Int(number)) => *number,
+            _ => 0,
+        }
+    }
+
+    /// The arguments of a call or a statepoint.
+    pub fn arguments(&self) -> &[Operand]
+        ensures { result.now ≡ arguments_of self.now }
+    {
+        match &self.op {
+            Op::Statepoint { types, .. } => front(self.operands(), types.list().len()),
+            _ => self.operands(),
+        }
+    }
+
+    /// The "gc-live" entries of a statepoint.
+    pub fn live_entries(&self) -> &[Operand]
+        ensures { result.now ≡ entries_of self.now }
+    {
+        match &self.op {
+            Op::Statepoint { types, .. } => behind(self.operands(), types.list().len()),
+            _ => &[],
+        }
+    }
+
+    /// How many phis stand before the first other of these instructions.
+    pub fn phi_count(insts: &[Inst]) -> usize
+        ensures value { result ≡ phis_of insts.now }
+        ensures within { result ≤ length insts.now }
+    {
+        let mut count = 0;
+        while count < insts.len() && insts[count].op().is_phi() {
+            count += 1;
+        }
+        count
+    }
+
     /// Its operands, for writing.
     pub fn operands_mut(&mut self) -> &mut [Operand]
         ensures* writes_back { sem 𝓛 (lends_operands self.entry result) }
@@ -124,6 +180,35 @@ impl Inst {
         ensures { result.now ≡ self.now.bundle }
     {
         self.rest.bundle()
+    }
+
+    /// Puts another "deopt" bundle in place of its own; where memory is lacking it keeps its own.
+    pub fn set_bundle(&mut self, alloc: Global, bundle: Vec<(Ty, Operand)>) -> Result<(), Memory>
+        ensures set { OnOk result (self.new ≡ record self.old { bundle = bundle.items }) }
+        ensures kept { OnErr result (self.new ≡ self.old) }
+    {
+        self.rest = Rest::of(alloc, self.rest.labels(), bundle)?;
+        Ok(())
+    }
+}
+
+fn front(operands: &[Operand], count: usize) -> &[Operand]
+    ensures { result.now ≡ take count operands.now }
+{
+    if count < operands.len() {
+        &operands[..count]
+    } else {
+        operands
+    }
+}
+
+fn behind(operands: &[Operand], count: usize) -> &[Operand]
+    ensures { result.now ≡ drop count operands.now }
+{
+    if count < operands.len() {
+        &operands[count..]
+    } else {
+        &[]
     }
 }
 

@@ -1,4 +1,7 @@
+//! The layouts of objects.
+
 ghost use Rattle.std.specs.Prelude.{◌≡◌};
+ghost use Rattle.ir_ast.specs.Sizes.{fields_in};
 
 use crate::cells::Cell;
 use crate::clones::TryClone;
@@ -51,6 +54,16 @@ impl Layout {
         ensures { result.now ≡ self.now.fields }
     {
         self.fields.as_slice()
+    }
+
+    /// The cells of the layout at a place, none where there is no such layout.
+    pub fn fields_of(layouts: &[Layout], place: u32) -> &[Cell]
+        ensures { result.now ≡ fields_in layouts.now place }
+    {
+        match layouts.get(place as usize) {
+            None => &[],
+            Some(layout) => layout.fields(),
+        }
     }
 }
 

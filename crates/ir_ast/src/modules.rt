@@ -1,4 +1,6 @@
-ghost use Rattle.std.specs.Prelude.{◌≡◌, ◌^◌, ◌<◌, length, map, IfOk};
+//! Modules, and the form of their lines.
+
+ghost use Rattle.std.specs.Prelude.{◌≡◌, ◌^◌, ◌<◌, length, map, option_map, slice_get, IfOk};
 ghost use Rattle.ir_ast.specs.Funcs.{content_of, lines_of};
 ghost use Rattle.ir_ast.specs.Modules.{line_at};
 
@@ -84,6 +86,13 @@ impl Module {
         ensures few { length result.now < 2 ^ 32 }
     {
         self.funcs.as_slice()
+    }
+
+    /// The function with this number, if there is one.
+    pub fn func_at(&self, place: usize) -> Option<&Func>
+        ensures { option_map (λ func. func.now.content) result ≡ slice_get self.now.content.funcs place }
+    {
+        self.funcs.get(place)
     }
 
     /// Its form.

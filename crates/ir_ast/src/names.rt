@@ -1,6 +1,10 @@
-ghost use Rattle.std.specs.Prelude.{◌≡◌, ◌≤◌, length, IfOk};
+//! Names, of which the short ones take no memory.
+
+ghost use Rattle.std.specs.Prelude.{◌≡◌, ◌≤◌, ◌++◌, decimal, length, IfOk};
 
 use crate::clones::TryClone;
+use itoa::Buffer;
+use smallvec::SmallVec;
 use sp_ids::Memory;
 use std::alloc::{AllocError, Global};
 use std::fmt;
@@ -41,6 +45,17 @@ impl Name {
             return long(alloc, bytes);
         }
         Ok(short(bytes))
+    }
+
+    /// The name of this front and of the decimal digits of a number behind it.
+    pub fn numbered(alloc: Global, front: &[u8], number: u32) -> Result<Name, Memory>
+        ensures { IfOk result (λ name. name ≡ front.now ++ decimal number) }
+    {
+        let mut buffer = Buffer::new();
+        let mut bytes = SmallVec::<u8, 16>::new(alloc);
+        bytes.extend_from_slice(front)?;
+        bytes.extend_from_slice(buffer.format(number).as_bytes())?;
+        Ok(Name::of(alloc, bytes.as_slice())?)
     }
 
     /// Its bytes.

@@ -1,5 +1,10 @@
+//! Operators, operands and callees, and their classes.
+
 ghost use Rattle.std.specs.Prelude.{◌≡◌};
-ghost use Rattle.ir_ast.specs.Ops.{is_terminator};
+ghost use Rattle.ir_ast.specs.Callees.{is_helper, is_leaf};
+ghost use Rattle.ir_ast.specs.Lines.{is_rewritten};
+ghost use Rattle.ir_ast.specs.Operands.{is_null, same_operand, value_named};
+ghost use Rattle.ir_ast.specs.Ops.{is_call, is_member, is_phi, is_relocate, is_statepoint, is_terminator};
 
 use crate::clones::TryClone;
 use crate::types::Types;
@@ -18,6 +23,37 @@ pub enum Operand {
     Null,
     /// A defined function, as an argument of `task_start`.
     Fun(FuncId),
+}
+
+impl Operand {
+    /// Whether it is `null`.
+    pub fn is_null(self) -> bool
+        ensures { result ≡ is_null self }
+    {
+        matches!(self, Operand::Null)
+    }
+
+    /// The value that it names, if it names one.
+    pub fn value(self) -> Option<ValueId>
+        ensures { result ≡ value_named self }
+    {
+        match self {
+            Operand::Value(value) => Some(value),
+            _ => None,
+        }
+    }
+
+    /// Whether both are one value, one literal, or `null`.
+    pub fn is_same(self, other: Operand) -> bool
+        ensures { result ≡ same_operand self other }
+    {
+        match (self, other) {
+            (Operand::Value(value), Operand::Value(other)) => value.0 == other.0,
+            (Operand::Int(number), Operand::Int(other)) => number == other,
+            (Operand::Null, Operand::Null) => true,
+            _ => false,
+        }
+    }
 }
 
 /// The operands of an instruction, in the order of its line.
@@ -70,6 +106,25 @@ pub enum Callee {
     Check,
     /// `gc_same`.
     Same,
+}
+
+impl Callee {
+    /// Whether it reaches no safepoint, so that a call of it needs no statepoint.
+    pub fn is_leaf(self) -> bool
+        ensures { result ≡ is_leaf self }
+    {
+        matches!(
+            self,
+            Callee::Print | Callee::Read | Callee::Check | Callee::Same
+        )
+    }
+
+    /// Whether only the rewritten form calls it: a poll or a helper.
+    pub fn is_helper(self) -> bool
+        ensures { result ≡ is_helper self }
+    {
+        matches!(self, Callee::Poll | Callee::Check | Callee::Same)
+    }
 }
 
 /// The operator of an instruction, with what its line says besides types, operands and labels.
@@ -138,6 +193,54 @@ impl Op {
             self,
             Op::Br | Op::CondBr | Op::Switch | Op::Ret | Op::Unreachable
         )
+    }
+
+    /// Whether it is a phi.
+    pub fn is_phi(&self) -> bool
+        ensures { result ≡ is_phi self.now }
+    {
+        matches!(self, Op::Phi)
+    }
+
+    /// Whether it is a call of something that may reach a safepoint.
+    pub fn is_call(&self) -> bool
+        ensures { result ≡ is_call self.now }
+    {
+        match self {
+            Op::Call { callee, .. } => !callee.is_leaf(),
+            _ => false,
+        }
+    }
+
+    /// Whether it is a statepoint.
+    pub fn is_statepoint(&self) -> bool
+        ensures { result ≡ is_statepoint self.now }
+    {
+        matches!(self, Op::Statepoint { .. })
+    }
+
+    /// Whether it is a result or a relocate, which stand behind their statepoint.
+    pub fn is_member(&self) -> bool
+        ensures { result ≡ is_member self.now }
+    {
+        matches!(self, Op::GcResult | Op::GcRelocate)
+    }
+
+    /// Whether it is a relocate.
+    pub fn is_relocate(&self) -> bool
+        ensures { result ≡ is_relocate self.now }
+    {
+        matches!(self, Op::GcRelocate)
+    }
+
+    /// Whether it stands only in the rewritten form.
+    pub fn is_rewritten(&self) -> bool
+        ensures { result ≡ is_rewritten self.now }
+    {
+        match self {
+            Op::Call { callee, .. } => callee.is_helper(),
+            _ => self.is_statepoint() || self.is_member(),
+        }
     }
 }
 

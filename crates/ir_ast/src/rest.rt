@@ -1,3 +1,5 @@
+//! The labels and the bundle of an instruction.
+
 ghost use Rattle.std.specs.Prelude.{◌≡◌, [], IfOk};
 ghost use Rattle.ir_ast.specs.Rests.{labels_and_bundle};
 

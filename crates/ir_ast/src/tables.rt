@@ -1,3 +1,5 @@
+//! The tables that passes hand on: bases, and live values.
+
 ghost use Rattle.std.specs.Prelude.{◌≡◌, map};
 
 use crate::ops::Operand;

@@ -1,4 +1,7 @@
+//! The types of values, and lists of them.
+
 ghost use Rattle.std.specs.Prelude.{◌≡◌, [], IfOk};
+ghost use Rattle.ir_ast.specs.Types.{is_pointer};
 
 use crate::clones::TryClone;
 use sp_ids::Memory;
@@ -15,6 +18,15 @@ pub enum Ty {
     Ptr,
     /// `token`, the type of a statepoint.
     Token,
+}
+
+impl Ty {
+    /// Whether it is the type of managed pointers.
+    pub fn is_pointer(self) -> bool
+        ensures { result ≡ is_pointer self }
+    {
+        matches!(self, Ty::Ptr)
+    }
 }
 
 /// The types of the arguments of a call. Contracts see a list of `Ty`. No memory is taken for one or two, nor

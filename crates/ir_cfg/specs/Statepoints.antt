@@ -1,14 +1,11 @@
 -- The limits on the statepoints of a function, which only the rewritten form has.
-use Rattle.std.specs.Prelude.{◌≡◌, ⊤, ℕ, ◌≤◌, ◌<◌, ◌^◌, ◌&&◌, Bool, true, false, Some, length, filter, slice_get}
+use Rattle.std.specs.Prelude.{◌≡◌, ⊤, ℕ, ◌≤◌, ◌<◌, ◌^◌, ◌&&◌, true, Some, length, filter, slice_get}
 use Rattle.ir_ast.specs.declared.ops.Op.{Op}
-use Rattle.ir_ast.specs.declared.ops.Op.TheVariants.{Statepoint, GcRelocate}
+use Rattle.ir_ast.specs.declared.ops.Op.TheVariants.{Statepoint}
 use Rattle.ir_ast.specs.Insts.{Instruction}
 use Rattle.ir_ast.specs.Funcs.{Function, instructions_of}
 use Rattle.ir_ast.specs.Faults.GroupShape.{is_statepoint, is_part, entries_of, number_at}
-
-abbrev pub is_relocate : Op → Bool
-is_relocate GcRelocate = true
-is_relocate _ = false
+pub use Rattle.ir_ast.specs.Ops.{is_relocate}
 
 -- how many relocates name the token
 abbrev pub relocates_of : Function → ℕ → ℕ

@@ -8,10 +8,11 @@ use Rattle.ir_ast.specs.declared.ops.Op.{Op}
 use Rattle.ir_ast.specs.declared.ops.Op.TheVariants.{Phi}
 use Rattle.ir_ast.specs.Insts.{Instruction}
 use Rattle.ir_ast.specs.Blocks.{BasicBlock}
-use Rattle.ir_ast.specs.Funcs.{Function, instructions_of}
+use Rattle.ir_ast.specs.Funcs.{Function}
 use Rattle.ir_ast.specs.Modules.{ModuleContent}
 use Rattle.ir_cfg.specs.Graphs.{graph_of}
 use Rattle.ir_cfg.specs.Marks.{MarksReached}
+pub use Rattle.ir_ast.specs.Funcs.{zeros_of}
 
 -- those of a list that have a mark
 abbrev pub kept_of : {A : Type 0} → List Bool → List A → List A
@@ -82,10 +83,6 @@ kept_by marks func = record {
 -- the function with the marked blocks alone
 abbrev pub function_kept : List Bool → Function → Function
 function_kept marks func = record func { blocks = map (block_kept (kept_by marks func)) (kept_of marks func.blocks) }
-
--- a line 0 for each instruction
-abbrev pub zeros_of : Function → List ℕ
-zeros_of func = replicate (length (instructions_of func.blocks)) 0
 
 -- the other function is this one without its unreached blocks
 pub record DropsUnreached (func after : Function) : Type 0 where

@@ -1,7 +1,8 @@
 -- What a list contains, and what holds of all of it.
-use Rattle.std.proofs.Common.{◌≡◌, ◌∙◌, ◌⊎◌, inl, inr, ℕ, zero, suc, List, [], ◌∷◌, ◌++◌, map, get_or, refl, ap, sym, subst, Some, slice_get}
-use Rattle.std.specs.Prelude.{flat_map, option_map}
+use Rattle.std.proofs.Common.{◌≡◌, ◌∙◌, ◌⊎◌, inl, inr, ℕ, zero, suc, ◌+◌, ◌<◌, List, [], ◌∷◌, ◌++◌, map, get_or, replicate, refl, ap, sym, subst, arith, Some, slice_get}
+use Rattle.std.specs.Prelude.{flat_map, option_map, length}
 use Rattle.std.specs.List.{All, Contains}
+use Rattle.std.proofs.lemmas.List.{get_or-map, length-map}
 use Rattle.std.proofs.lemmas.List.Elements.{All-nil, All-cons, All-head, All-tail, All-weaker, All-contains_itself, Contains-append_left, Contains-append_right, Contains-append_cases}
 use Rattle.std.proofs.lemmas.Option.{slice_get-map, slice_get_within, slice_get-get_or, get_or_from_slice_get, none-some, same_Some}
 
@@ -58,6 +59,24 @@ contains_image f (x ∷ xs) y within = elim (contains_cons (f x) y (map f xs) wi
       record { of = i.of; inside = contains_later x i.of xs i.inside; is = i.is })
 ]
 
+pub all_under : {A B : Type 0} (f : A → B) (P : B → Type 0) (xs : List A) → All P (map f xs) → All (λ x. P (f x)) xs
+all_under f P xs all = λ k d below.
+    let within : k < length (map f xs) = omega (arith, below, length-map xs f) in
+    subst P (get_or-map f xs k d (f d) below) (all k (f d) within)
+
+-- ---- copies
+
+pub replicate_contains : {A : Type 0} (n : ℕ) (x : A) → 0 < n → Contains (replicate n x) x
+replicate_contains zero x some = absurd (omega arith)
+replicate_contains (suc n) x some = (0, omega arith, refl)
+
+pub contains_replicate : {A : Type 0} (n : ℕ) (x y : A) → Contains (replicate n x) y → (0 < n) × (y ≡ x)
+contains_replicate zero x y within = absurd (omega (arith, within.1))
+contains_replicate (suc n) x y (zero, below, is) = (omega arith, sym is)
+contains_replicate (suc n) x y (suc k, below, is) =
+    let rest = contains_replicate n x y (k, omega (arith, below), is) in
+    (omega arith, rest.1)
+
 -- ---- lists of joined images
 
 -- where an element of joined lists comes from
@@ -92,6 +111,9 @@ all_from_at P xs each = λ k d below. each k (get_or xs k d) (slice_get-get_or x
 
 pub all_at : {A : Type 0} (P : A → Type 0) (xs : List A) (k : ℕ) (x : A) → All P xs → slice_get xs k ≡ Some x → P x
 all_at P xs k x all at = subst P (get_or_from_slice_get xs k x x at) (all k x (slice_get_within xs k x at))
+
+pub all_one : {A : Type 0} (P : A → Type 0) (x : A) → P x → All P (x ∷ [])
+all_one P x holds = All-cons P x [] holds (All-nil P)
 
 pub all_front : {A : Type 0} (P : A → Type 0) (xs ys : List A) → All P (xs ++ ys) → All P xs
 all_front P [] ys all = All-nil P

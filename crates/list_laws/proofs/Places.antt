@@ -1,7 +1,7 @@
 -- What stands at a place of a list.
 use Rattle.std.proofs.Common.{Option, None, ◌≡◌, ◌≢◌, ◌∙◌, ◌⊎◌, inl, inr, ℕ, zero, suc, ◌+◌, ◌<◌, List, [], ◌∷◌, ◌++◌, map, length, get_or, set, take, drop, replicate, refl, ap, sym, arith, Some, slice_get}
 use Rattle.std.specs.List.{filter_map, cons_option}
-use Rattle.std.proofs.lemmas.List.{drop_more, take-append-drop}
+use Rattle.std.proofs.lemmas.List.{drop_more, take_more, take-append-drop}
 use Rattle.std.proofs.lemmas.Option.{slice_get_within, get_or_from_slice_get, none-some, same_Some}
 
 -- a place below the next one is below this one, or is this one
@@ -35,7 +35,93 @@ get_pushed [] y (suc k) x is = absurd (none-some x is)
 get_pushed (z ∷ xs) y zero x is = inl is
 get_pushed (z ∷ xs) y (suc k) x is = get_pushed xs y k x is
 
+pub get_last : {A : Type 0} (xs : List A) (x : A) → slice_get (xs ++ x ∷ []) (length xs) ≡ Some x
+get_last xs x = get_middle xs x []
+
+-- what stands in joined lists stands in the first, or further on in the second
+pub get_joined : {A : Type 0} (xs ys : List A) (k : ℕ) (x : A) → slice_get (xs ++ ys) k ≡ Some x
+    → (slice_get xs k ≡ Some x) ⊎ ((j : ℕ) × (length xs + j ≡ k) × (slice_get ys j ≡ Some x))
+get_joined [] ys k x is = inr (k, omega arith, is)
+get_joined (z ∷ xs) ys zero x is = inl is
+get_joined (z ∷ xs) ys (suc k) x is = elim (get_joined xs ys k x is) [
+  | inl front ↦ inl front
+  | inr back ↦ (let e = back.1 in inr (back.0, omega arith, back.2))
+]
+
+pub pushed_cases : {A : Type 0} (xs : List A) (y : A) (k : ℕ) (x : A) → slice_get (xs ++ y ∷ []) k ≡ Some x
+    → (slice_get xs k ≡ Some x) ⊎ ((k ≡ length xs) × (y ≡ x))
+pushed_cases [] y zero x is = inr (refl, same_Some y x is)
+pushed_cases [] y (suc k) x is = absurd (none-some x is)
+pushed_cases (z ∷ xs) y zero x is = inl is
+pushed_cases (z ∷ xs) y (suc k) x is = elim (pushed_cases xs y k x is) [
+  | inl earlier ↦ inl earlier
+  | inr last ↦ inr (ap suc last.0, last.1)
+]
+
+-- a list is empty or ends with an element
+pub split_last : {A : Type 0} (xs : List A) → (xs ≡ []) ⊎ ((front : List A) × (last : A) × (xs ≡ front ++ last ∷ []))
+split_last [] = inl refl
+split_last {A} (x ∷ xs) = elim (split_last xs) [
+  | inl none ↦ inr ([], x, ap (λ (ys : List A). x ∷ ys) none)
+  | inr some ↦ inr (x ∷ some.0, some.1, ap (λ (ys : List A). x ∷ ys) some.2)
+]
+
 -- ---- a part of a list
+
+-- none of a list, and all of it
+pub take_none : {A : Type 0} (xs : List A) → take 0 xs ≡ []
+take_none [] = refl
+take_none (x ∷ xs) = refl
+
+pub drop_none : {A : Type 0} (xs : List A) → drop 0 xs ≡ xs
+drop_none [] = refl
+drop_none (x ∷ xs) = refl
+
+pub drop_nil : {A : Type 0} (n : ℕ) → drop {A = A} n [] ≡ []
+drop_nil zero = refl
+drop_nil (suc n) = refl
+
+pub drop_whole : {A : Type 0} (xs : List A) → drop (length xs) xs ≡ []
+drop_whole [] = refl
+drop_whole (x ∷ xs) = drop_whole xs
+
+pub drop_past : {A : Type 0} (xs : List A) (k : ℕ) → slice_get xs k ≡ None → drop k xs ≡ []
+drop_past [] k none = drop_nil k
+drop_past (x ∷ xs) zero none = absurd (none-some x (sym none))
+drop_past (x ∷ xs) (suc k) none = drop_past xs k none
+
+pub drop_map : {A B : Type 0} (f : A → B) (count : ℕ) (xs : List A) → drop count (map f xs) ≡ map f (drop count xs)
+drop_map f zero xs = refl
+drop_map f (suc count) [] = refl
+drop_map f (suc count) (x ∷ xs) = drop_map f count xs
+
+pub get_dropped : {A : Type 0} (xs : List A) (n k : ℕ) → slice_get (drop n xs) k ≡ slice_get xs (n + k)
+get_dropped xs zero k = let same : 0 + k ≡ k = omega arith in rw same refl
+get_dropped [] (suc n) k = refl
+get_dropped (x ∷ xs) (suc n) k = let same : suc n + k ≡ suc (n + k) = omega arith in rw same (get_dropped xs n k)
+
+-- the element at a place of a part is one of the list
+pub take_back : {A : Type 0} (n : ℕ) (xs : List A) (k : ℕ) (x : A) → slice_get (take n xs) k ≡ Some x → (k < n) × (slice_get xs k ≡ Some x)
+take_back zero xs k x at = absurd (none-some x at)
+take_back (suc n) [] k x at = absurd (none-some x at)
+take_back (suc n) (y ∷ ys) zero x at = (omega arith, at)
+take_back (suc n) (y ∷ ys) (suc k) x at = (let more = take_back n ys k x at in (omega (arith, more.0), more.1))
+
+-- what a rest begins with
+pub drop_first : {A : Type 0} (xs : List A) (k : ℕ) (x : A) (rest : List A) → drop k xs ≡ x ∷ rest → (slice_get xs k ≡ Some x) × (drop (k + 1) xs ≡ rest)
+drop_first [] zero x rest is = absurd cc
+drop_first [] (suc k) x rest is = absurd cc
+drop_first (y ∷ xs) zero x rest is =
+    let same : y ≡ x = cc in
+    let behind : xs ≡ rest = cc in
+    (ap (λ z. Some z) same, behind)
+drop_first (y ∷ xs) (suc k) x rest is =
+    let found = drop_first xs k x rest is in
+    let further : suc k + 1 ≡ suc (k + 1) = omega arith in
+    (found.0, ap (λ n. drop n (y ∷ xs)) further ∙ found.1)
+
+pub take_item : {A : Type 0} (xs : List A) (k : ℕ) (x : A) → k < length xs → x ≡ get_or xs k x → take (k + 1) xs ≡ take k xs ++ x ∷ []
+take_item xs k x below is = take_more xs k x below ∙ ap (λ y. take k xs ++ y ∷ []) (sym is)
 
 pub get_taken : {A : Type 0} (xs : List A) (j k : ℕ) → j < k → slice_get (take k xs) j ≡ slice_get xs j
 get_taken xs j zero below = absurd (omega arith)
@@ -85,6 +171,9 @@ get_written [] k x y is = absurd (none-some x is)
 get_written (z ∷ xs) zero x y is = refl
 get_written (z ∷ xs) (suc k) x y is = get_written xs k x y is
 
+pub get_own : {A : Type 0} (xs : List A) (k : ℕ) (x : A) → k < length xs → slice_get (set xs k x) k ≡ Some x
+get_own xs k x within = let had = get_some xs k within in get_written xs k had.0 x had.1
+
 -- what stands anywhere stays when the same is written
 pub get_kept : {A : Type 0} (xs : List A) (j k : ℕ) (x : A) → slice_get xs k ≡ Some x → slice_get (set xs j x) k ≡ Some x
 get_kept [] j k x is = is
@@ -104,6 +193,40 @@ get_set (z ∷ xs) (suc j) (suc k) y x is =
       | inl old ↦ inl (λ same. old.0 (omega (arith, same)), old.1)
       | inr new ↦ inr (ap suc new.0, new.1)
     ]
+
+pub set_twice : {A : Type 0} (xs : List A) (k : ℕ) (x y : A) → set (set xs k x) k y ≡ set xs k y
+set_twice [] k x y = refl
+set_twice (z ∷ xs) zero x y = refl
+set_twice (z ∷ xs) (suc k) x y = ap (λ rest. z ∷ rest) (set_twice xs k x y)
+
+pub set_again : {A : Type 0} (xs : List A) (j k : ℕ) (x y : A) → set (set (set xs j x) k y) j x ≡ set (set xs k y) j x
+set_again [] j k x y = refl
+set_again (z ∷ xs) zero zero x y = refl
+set_again (z ∷ xs) zero (suc k) x y = refl
+set_again (z ∷ xs) (suc j) zero x y = ap (λ rest. y ∷ rest) (set_twice xs j x x)
+set_again (z ∷ xs) (suc j) (suc k) x y = ap (λ rest. z ∷ rest) (set_again xs j k x y)
+
+pub take_set : {A : Type 0} (n k : ℕ) (xs : List A) (x : A) → k < n → take n (set xs k x) ≡ set (take n xs) k x
+take_set zero k xs x below = absurd (omega arith)
+take_set (suc n) k [] x below = refl
+take_set (suc n) zero (y ∷ xs) x below = refl
+take_set (suc n) (suc k) (y ∷ xs) x below = ap (λ rest. y ∷ rest) (take_set n k xs x (omega arith))
+
+pub drop_set : {A : Type 0} (n k : ℕ) (xs : List A) (x : A) → k < n → drop n (set xs k x) ≡ drop n xs
+drop_set zero k xs x below = absurd (omega arith)
+drop_set (suc n) k [] x below = refl
+drop_set (suc n) zero (y ∷ xs) x below = refl
+drop_set (suc n) (suc k) (y ∷ xs) x below = drop_set n k xs x (omega arith)
+
+pub take_set_behind : {A : Type 0} (n k : ℕ) (xs : List A) (x : A) → take n (set xs (n + k) x) ≡ take n xs
+take_set_behind zero k xs x = refl
+take_set_behind (suc n) k [] x = refl
+take_set_behind (suc n) k (y ∷ xs) x = let e : suc n + k ≡ suc (n + k) = omega arith in rw e (ap (λ rest. y ∷ rest) (take_set_behind n k xs x))
+
+pub drop_set_behind : {A : Type 0} (n k : ℕ) (xs : List A) (x : A) → drop n (set xs (n + k) x) ≡ set (drop n xs) k x
+drop_set_behind zero k xs x = let e : 0 + k ≡ k = omega arith in rw e refl
+drop_set_behind (suc n) k [] x = refl
+drop_set_behind (suc n) k (y ∷ xs) x = let e : suc n + k ≡ suc (n + k) = omega arith in rw e (drop_set_behind n k xs x)
 
 -- ---- a list of the images that there are
 

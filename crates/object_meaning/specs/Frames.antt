@@ -1,14 +1,15 @@
 -- Frames: a new one, one that goes on, and one that gets its call's answer.
-use Rattle.std.specs.Prelude.{ℕ, ◌-◌, Bool, true, false, List, [], ◌∷◌, ◌++◌, length, take, drop, map, replicate, Option, Some, slice_get}
+use Rattle.std.specs.Prelude.{ℕ, ◌-◌, List, [], ◌∷◌, ◌++◌, length, take, drop, map, replicate, slice_get}
 use Rattle.std.specs.List.{prefix_len}
 use Rattle.ir_ast.specs.declared.ops.Operand.{Operand}
-use Rattle.ir_ast.specs.declared.ops.Operand.TheVariants.{Int}
 use Rattle.ir_ast.specs.declared.ops.Op.{Op}
-use Rattle.ir_ast.specs.declared.ops.Op.TheVariants.{Statepoint, GcResult, GcRelocate}
+use Rattle.ir_ast.specs.declared.ops.Op.TheVariants.{Statepoint, GcRelocate}
 use Rattle.ir_ast.specs.Objects.{Datum}
 use Rattle.object_meaning.specs.Lines.{Line}
 use Rattle.object_meaning.specs.Registers.{nothing, operand, Write, put, put_all}
 use Rattle.object_meaning.specs.States.{Frame, State, Setting}
+pub use Rattle.ir_ast.specs.Ops.{is_member}
+pub use Rattle.ir_ast.specs.Operands.{index_in}
 
 -- the first frame of a call: arguments come first, every other register starts as 0
 abbrev pub entered : Setting → ℕ → List Datum → Frame
@@ -23,16 +24,6 @@ entered setting func arguments = record {
 abbrev pub passed : State → Line → List Line → Datum → State
 passed state line rest result =
     record state { running = record state.running { rest = rest; registers = put line.to result state.running.registers } }
-
--- a result or a relocate, which belongs to the statepoint before it
-abbrev pub is_member : Op → Bool
-is_member GcResult = true
-is_member GcRelocate = true
-is_member _ = false
-
-abbrev pub index_in : Option Operand → ℕ
-index_in (Some (Int place)) = place
-index_in _ = 0
 
 -- a result is the callee's answer; a relocate is what its derived entry was at the statepoint, which has these entries
 abbrev pub member_value : List Datum → List Operand → Datum → Line → Op → Datum

@@ -17,3 +17,4 @@ pub mod Texts
 pub mod Outcomes
 pub mod SourceRuns
 pub mod TargetRuns
+pub mod BlockLines

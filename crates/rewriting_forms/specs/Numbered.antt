@@ -1,47 +1,23 @@
 -- A function before liveness: its lines with their registers, its pointers and their bases.
-use Rattle.std.specs.Prelude.{ℕ, ◌==◌, Bool, false, not, List, [], length, map, filter, Option, None, slice_get, slice_index, slice_index_or}
+use Rattle.std.specs.Prelude.{ℕ, ◌==◌, Bool, false, List, length, map, filter, slice_get, slice_index_or}
 use Rattle.std.specs.List.{list_any, range_with_len}
 use Rattle.std.specs.Option.{option_map_or}
-use Rattle.ir_ast.specs.declared.types.Ty.TheVariants.{Void}
 use Rattle.ir_ast.specs.declared.ops.Operand.{Operand}
-use Rattle.ir_ast.specs.declared.ops.Operand.TheVariants.{Value, Null}
-use Rattle.ir_ast.specs.declared.ops.Op.{Op}
-use Rattle.ir_ast.specs.declared.ops.Op.TheVariants.{Call, Br}
+use Rattle.ir_ast.specs.declared.ops.Operand.TheVariants.{Null}
 use Rattle.ir_ast.specs.Funcs.{Function}
 use Rattle.ir_ast.specs.Types.{is_pointer}
-use Rattle.ir_ast.specs.Callees.{is_leaf}
 use Rattle.ir_ast.specs.Values.{value_types}
 use Rattle.ir_cfg.specs.Graphs.{graph_of, succs_of, preds_of}
-use Rattle.object_meaning.specs.Lines.{Line, registers_of, insts_in}
-use Rattle.object_meaning.specs.TargetRuns.{plain_lines}
-
--- a value of this number as an operand
-abbrev pub named : ℕ → Operand
-named v = Value (record { 0 = v })
+use Rattle.object_meaning.specs.Lines.{Line}
+pub use Rattle.object_meaning.specs.BlockLines.{lines_at, no_line, is_given, gives}
+pub use Rattle.ir_ast.specs.Operands.{named}
+pub use Rattle.ir_ast.specs.Ops.{is_call}
 
 abbrev pub among : ℕ → List ℕ → Bool
 among v values = list_any (λ x. x == v) values
 
--- the lines of a block, as the target meaning runs them
-abbrev pub lines_at : Function → ℕ → List Line
-lines_at func b = plain_lines (slice_index (registers_of func) b) (insts_in func b)
-
-abbrev pub no_line : Line
-no_line = record { to = None; inst = record { result = None; op = Br; ty = Void; operands = []; labels = []; bundle = [] } }
-
 abbrev pub line_at : Function → ℕ → ℕ → Line
 line_at func b k = slice_index_or (lines_at func b) k no_line
-
-abbrev pub is_given : Option ℕ → ℕ → Bool
-is_given to v = option_map_or (λ x. x == v) to false
-
-abbrev pub gives : Line → ℕ → Bool
-gives line v = is_given line.to v
-
--- a call of a function that isn't a leaf
-abbrev pub is_call : Op → Bool
-is_call (Call callee types) = not (is_leaf callee)
-is_call _ = false
 
 abbrev pub calls : Line → Bool
 calls line = is_call line.inst.op

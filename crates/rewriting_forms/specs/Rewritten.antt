@@ -23,6 +23,7 @@ use Rattle.object_meaning.specs.Lines.{Line}
 use Rattle.rewriting_forms.specs.Numbered.{named, lines_at, line_at, calls, pointers, base_at, preds}
 use Rattle.rewriting_forms.specs.Liveness.{live_list}
 use Rattle.rewriting_forms.specs.Names.{Name, own, relocated, joined, token, Names, Naming, names_at, names_at_end, naming_of}
+pub use Rattle.ir_ast.specs.Operands.{is_null}
 
 -- numbers: the place of a name among all values of the final text, arguments first
 abbrev pub same_name : Name → Name → Bool
@@ -71,10 +72,6 @@ renamed number names (Fun func) = Fun func
 pub record Piece : Type 0 where
   pub name : Option Name
   pub inst : Instruction
-
-abbrev pub is_null : Operand → Bool
-is_null Null = true
-is_null _ = false
 
 abbrev pub same_operand : Operand → Operand → Bool
 same_operand (Value v) (Value w) = v.0 == w.0

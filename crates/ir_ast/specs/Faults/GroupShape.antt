@@ -1,30 +1,20 @@
 -- Statepoint groups: what has no fault of code 18, which is one of the rewritten form alone (Garbage
 -- Collection Safepoints in LLVM, "Intrinsics").
-use Rattle.std.specs.Prelude.{◌≡◌, ◌≢◌, ℕ, ◌+◌, ◌<◌, ◌==◌, Bool, true, false, List, [], ◌∷◌, length, take, drop, filter, Some, IfSome, is_some, slice_get}
+use Rattle.std.specs.Prelude.{◌≡◌, ◌≢◌, ℕ, ◌+◌, ◌<◌, ◌==◌, Bool, true, false, List, [], ◌∷◌, length, take, filter, Some, IfSome, is_some, slice_get}
 use Rattle.std.specs.List.{All}
 use Rattle.sp_ids.specs.declared.ids.ValueId.{ValueId}
 use Rattle.ir_ast.specs.declared.types.Ty.TheVariants.{Ptr, Token}
 use Rattle.ir_ast.specs.declared.ops.Operand.{Operand}
 use Rattle.ir_ast.specs.declared.ops.Operand.TheVariants.{Value, Int}
 use Rattle.ir_ast.specs.declared.ops.Op.{Op}
-use Rattle.ir_ast.specs.declared.ops.Op.TheVariants.{Statepoint, GcResult, GcRelocate}
+use Rattle.ir_ast.specs.declared.ops.Op.TheVariants.{GcResult, GcRelocate}
+pub use Rattle.ir_ast.specs.Ops.{is_statepoint}
 use Rattle.ir_ast.specs.Insts.{Instruction}
 use Rattle.ir_ast.specs.Funcs.{Function, instructions_of}
 use Rattle.ir_ast.specs.Values.{value_types}
+pub use Rattle.ir_ast.specs.Operands.{live_entries, entries_of}
 use Rattle.ir_ast.specs.Operands.{values_used}
 use Rattle.ir_ast.specs.Faults.TypeClash.{Fits}
-
--- the "gc-live" entries of a statepoint, which stand after its arguments
-abbrev pub live_entries : Op → List Operand → List Operand
-live_entries (Statepoint id callee types) operands = drop (length types) operands
-live_entries op operands = []
-
-abbrev pub entries_of : Instruction → List Operand
-entries_of inst = live_entries inst.op inst.operands
-
-abbrev pub is_statepoint : Op → Bool
-is_statepoint (Statepoint id callee types) = true
-is_statepoint _ = false
 
 -- the number of the value that the instruction at a place gives
 abbrev pub number_at : Function → ℕ → ℕ

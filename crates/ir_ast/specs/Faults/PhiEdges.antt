@@ -1,16 +1,11 @@
 -- Phis: what has no fault of code 7 (LLVM Language Reference, "'phi' Instruction").
-use Rattle.std.specs.Prelude.{◌≡◌, ℕ, Bool, true, false, List, ◌∷◌, ◌++◌, Some, slice_get}
+use Rattle.std.specs.Prelude.{◌≡◌, ℕ, true, List, ◌∷◌, ◌++◌, Some, slice_get}
 use Rattle.std.specs.List.{list_all}
-use Rattle.ir_ast.specs.declared.ops.Op.{Op}
-use Rattle.ir_ast.specs.declared.ops.Op.TheVariants.{Phi}
+pub use Rattle.ir_ast.specs.Ops.{is_phi}
 use Rattle.ir_ast.specs.Insts.{Instruction}
 use Rattle.ir_ast.specs.Blocks.{BasicBlock}
 use Rattle.ir_ast.specs.Funcs.{Function}
 use Rattle.ir_ast.specs.Edges.{count_of, edges}
-
-abbrev pub is_phi : Op → Bool
-is_phi Phi = true
-is_phi _ = false
 
 -- a phi of the block with this number, after these instructions of the block
 pub record PhiIsRight (func : Function) (block : ℕ) (before : List Instruction) (phi : Instruction) : Type 0 where
