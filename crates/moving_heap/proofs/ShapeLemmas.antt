@@ -10,8 +10,10 @@ use Rattle.std.proofs.lemmas.Option.{slice_get-get_or, slice_get_past}
 use Rattle.std.proofs.lemmas.List.{length_push, get_or_push, get_or_append_left}
 use Rattle.moving_heap.specs.declared.cells.Part.{Part}
 use Rattle.moving_heap.specs.declared.cells.Counted.{Counted}
-use Rattle.moving_heap.specs.Contents.{Shape, width_of, counted, count_of, with_count, shape_from, shapes_from, shapes_of, begins, nothing_kept, place_by, place_in, before, stored_shape, AreRising, AreKept, AreOrdered}
-use Rattle.moving_heap.proofs.CellLemmas.{place_is, place_past}
+use Rattle.cell_rows.specs.declared.shapes.Shape.{Shape}
+use Rattle.cell_rows.specs.Rows.{before, place_in, AreOrdered}
+use Rattle.cell_rows.proofs.RowLemmas.{place_is, place_past}
+use Rattle.moving_heap.specs.Contents.{width_of, counted, count_of, with_count, shape_from, shapes_from, shapes_of, begins, nothing_kept, place_by, stored_shape, AreRising, AreKept}
 use Rattle.moving_heap.proofs.FindLemmas.{AtMostOne, find_at_index, find_nothing}
 
 below : (a b : ℕ) → suc a < suc b → a < b

@@ -7,10 +7,11 @@ use Rattle.std.proofs.Math.Nat.{mul_left_comm}
 use Rattle.ir_ast.specs.declared.cells.Cell.{Cell}
 use Rattle.ir_ast.specs.Sizes.{size_of}
 use Rattle.ir_ast.proofs.SizeLaws.{aligned_at, size_is}
+use Rattle.cell_rows.specs.declared.shapes.Shape.{Shape}
 use Rattle.moving_heap.specs.declared.cells.Part.{Part}
 use Rattle.moving_heap.specs.declared.cells.Counted.{Counted}
 use Rattle.moving_heap.specs.declared.stands.Moved.{Moved}
-use Rattle.moving_heap.specs.Contents.{Content, Shape, AreKept, contents_of, shapes_of, bytes_of, sizes_of, with_word, after_moves, nothing_kept, begins}
+use Rattle.moving_heap.specs.Contents.{Content, AreKept, contents_of, shapes_of, bytes_of, sizes_of, with_word, after_moves, nothing_kept, begins}
 use Rattle.moving_heap.specs.Heaps.{footprint}
 use Rattle.moving_heap.proofs.CellLemmas.{moved_count}
 use Rattle.moving_heap.proofs.ShapeLemmas.{shape_is_at, shapes_of-length}

@@ -5,10 +5,9 @@ use Rattle.std.specs.List.{flat_map}
 use Rattle.std.specs.Option.{option_map, option_map_or}
 use Rattle.std.proofs.lemmas.Bool.{lt-ltb, le-ltb, cases_lt}
 use Rattle.std.proofs.lemmas.Bool.Decides.{eqb_tells}
-use Rattle.std.proofs.lemmas.List.{map-append, map-set, get_or_past, get_or-drop, get_or-take, take-map, drop-map, map_push, length-take, length-drop, length-map, set_past, take-append-le, drop-append-le, get_or_append_left, get_or_push, length_push, length-append, take_all, append_assoc, append-nil}
+use Rattle.std.proofs.lemmas.List.{take-set-le, drop-set-lt, drop-set-add, map-append, map-set, get_or_past, get_or-drop, get_or-take, take-map, drop-map, map_push, length-take, length-drop, length-map, set_past, take-append-le, drop-append-le, get_or_append_left, get_or_push, length_push, length-append, take_all, append_assoc, append-nil}
 use Rattle.std.proofs.lemmas.List.Sums.{sum_by-cons, sum_by_push}
-use Rattle.std.proofs.Math.Nat.{mul-le-mul_right}
-use Rattle.std.proofs.Math.Seq.{take-suc}
+use Rattle.std.proofs.Math.Seq.{take-suc, take-set-lt}
 use Rattle.sp_ids.specs.declared.ends.Trap.{Trap}
 use Rattle.ir_ast.specs.declared.cells.Cell.{Cell}
 use Rattle.ir_ast.specs.declared.cells.Cell.TheVariants.{I64, Ptr}
@@ -16,41 +15,19 @@ use Rattle.ir_ast.proofs.SizeLaws.{footprint_is}
 use Rattle.ir_ast.specs.Layouts.{ObjectLayout}
 use Rattle.ir_ast.specs.Sizes.{fields_in}
 use Rattle.ir_ast.specs.Objects.{Datum, Object, Pointer, footprint, blank}
-use Rattle.object_store.specs.declared.cells.Shape.{Shape}
+use Rattle.cell_rows.specs.declared.shapes.Shape.{Shape}
+use Rattle.cell_rows.specs.Rows.{AreLaid, AreOrdered, place_in, sizes}
+use Rattle.cell_rows.proofs.RowLemmas.{laid_push}
 use Rattle.object_store.specs.declared.words.Word.{Word}
+use Rattle.object_meaning.specs.Calls.{made}
 use Rattle.object_meaning.specs.Registers.{nothing, pointer_in}
 use Rattle.object_store.specs.Words.{datum}
 use Rattle.sp_ids.specs.declared.ends.Trap.TheVariants.{Null}
 use Rattle.object_meaning.specs.Accesses.{Place, accessed, within}
-use Rattle.object_store.specs.Stored.{is_full, object_made, HasCells, AreOrdered, AreLaid, bytes_taken, held, written, reached, object_at, objects_of, blank_word, blank_words, sizes, before, place_in}
+use Rattle.object_store.specs.Stored.{is_full, HasCells, AreStored, bytes_taken, held, written, reached, object_at, objects_of, blank_word, blank_words}
 
 below : (a b : ℕ) → suc a < suc b → a < b
 below a b h = omega arith
-
-above : (a b : ℕ) → a < b → suc a < suc b
-above a b h = omega arith
-
-shifted : (b : Bool) (n m cell : ℕ) → option_map (λ place. n + place) (cond b (Some (m + cell)) None) ≡ cond b (Some ((n + m) + cell)) None
-shifted true n m cell = ap (λ p. Some p) (let e : n + (m + cell) ≡ (n + m) + cell = omega arith in e)
-shifted false n m cell = refl
-
--- where a cell stands, from the first cell of its object
-pub place_is : (shapes : List Shape) (object cell : ℕ) (d : Shape) → object < length shapes → place_in shapes object cell ≡ cond (ltb cell (get_or shapes object d).cells) (Some (before shapes object + cell)) None
-place_is [] object cell d l = absurd (omega arith)
-place_is (shape ∷ shapes) zero cell d l = let e : 0 + cell ≡ cell = omega arith in rw e refl
-place_is (shape ∷ shapes) (suc object) cell d l =
-    ap (option_map (λ place. shape.cells + place)) (place_is shapes object cell d (below object (length shapes) l)) ∙ shifted (ltb cell (get_or shapes object d).cells) shape.cells (before shapes object) cell
-
-pub place_past : (shapes : List Shape) (object cell : ℕ) → length shapes ≤ object → place_in shapes object cell ≡ None
-place_past [] object cell l = refl
-place_past (shape ∷ shapes) zero cell l = absurd (omega arith)
-place_past (shape ∷ shapes) (suc object) cell l = ap (option_map (λ place. shape.cells + place)) (place_past shapes object cell (let h : length shapes ≤ object = omega arith in h))
-
-pub before_within : (shapes : List Shape) (object : ℕ) (d : Shape) → object < length shapes → before shapes object + (get_or shapes object d).cells ≤ sizes shapes
-before_within [] object d l = absurd (omega arith)
-before_within (shape ∷ shapes) zero d l = let s = sum_by-cons (λ (x : Shape). x.cells) shape shapes in omega arith
-before_within (shape ∷ shapes) (suc object) d l =
-    let h = before_within shapes object d (below object (length shapes) l) in let s = sum_by-cons (λ (x : Shape). x.cells) shape shapes in omega arith
 
 -- a further object
 pub blank_more : (fields : List Cell) (count : ℕ) → blank_words fields (count + 1) ≡ blank_words fields count ++ map blank_word fields
@@ -65,9 +42,6 @@ blank_length fields (suc count) =
     let h = blank_length fields count in let s = length-append (map blank_word fields) (blank_words fields count) in
     let m = length-map fields blank_word in
     let e : suc count * length fields ≡ length fields + count * length fields = grind arith in omega arith
-
-pub turn_fits : (turn count size : ℕ) → turn < count → turn * size + size ≤ count * size
-turn_fits turn count size h = let m = mul-le-mul_right size (let g : turn + 1 ≤ count = omega arith in g) in let e : (turn + 1) * size ≡ turn * size + size = grind arith in omega arith
 
 -- what the objects say by layout and count stands in the shapes
 pub get_objects : {X : Type 0} (F : ℕ → ℕ → X) (d : X) (shapes : List Shape) (words : List Word) (k : ℕ)
@@ -141,29 +115,6 @@ pub at_is : (word : Word) (object offset : ℕ) → object ≡ (pointer_in (datu
     → ◌≡◌ {A = Pointer} (record { object = object; offset = offset }) (pointer_in (datum word))
 at_is word object offset o f = rw (o, f) refl
 
--- a write
-take-set-lt : {X : Type 0} (n i : ℕ) (xs : List X) (x : X) → i < n → take n (set xs i x) ≡ set (take n xs) i x
-take-set-lt zero i xs x l = absurd (omega arith)
-take-set-lt (suc n) i [] x l = refl
-take-set-lt (suc n) zero (y ∷ xs) x l = refl
-take-set-lt (suc n) (suc i) (y ∷ xs) x l = ap (λ rest. y ∷ rest) (take-set-lt n i xs x (below i n l))
-
-drop-set-before : {X : Type 0} (n i : ℕ) (xs : List X) (x : X) → i < n → drop n (set xs i x) ≡ drop n xs
-drop-set-before zero i xs x l = absurd (omega arith)
-drop-set-before (suc n) i [] x l = refl
-drop-set-before (suc n) zero (y ∷ xs) x l = refl
-drop-set-before (suc n) (suc i) (y ∷ xs) x l = drop-set-before n i xs x (below i n l)
-
-take-set-behind : {X : Type 0} (n i : ℕ) (xs : List X) (x : X) → take n (set xs (n + i) x) ≡ take n xs
-take-set-behind zero i xs x = refl
-take-set-behind (suc n) i [] x = refl
-take-set-behind (suc n) i (y ∷ xs) x = let e : suc n + i ≡ suc (n + i) = omega arith in rw e (ap (λ rest. y ∷ rest) (take-set-behind n i xs x))
-
-drop-set-behind : {X : Type 0} (n i : ℕ) (xs : List X) (x : X) → drop n (set xs (n + i) x) ≡ set (drop n xs) i x
-drop-set-behind zero i xs x = let e : 0 + i ≡ i = omega arith in rw e refl
-drop-set-behind (suc n) i [] x = refl
-drop-set-behind (suc n) i (y ∷ xs) x = let e : suc n + i ≡ suc (n + i) = omega arith in rw e (drop-set-behind n i xs x)
-
 -- the objects with this cell of one of them written
 abbrev pub with_cell : List Object → ℕ → ℕ → Datum → List Object
 with_cell [] k cell to = []
@@ -186,14 +137,14 @@ write_rest : (shape : Shape) (shapes : List Shape) (words : List Word) (place : 
     → objects_of (shape ∷ shapes) (written words (option_map (λ p. shape.cells + p) place) word)
     ≡ object_at shape words ∷ objects_of shapes (written (drop shape.cells words) place word)
 write_rest shape shapes words None word = refl
-write_rest shape shapes words (Some place) word = rw (take-set-behind shape.cells place words word, drop-set-behind shape.cells place words word) refl
+write_rest shape shapes words (Some place) word = rw (take-set-le shape.cells words (shape.cells + place) word (omega arith), drop-set-add shape.cells words place word) refl
 
 pub write_is : (shapes : List Shape) (words : List Word) (k cell : ℕ) (word : Word)
     → objects_of shapes (written words (place_in shapes k cell) word) ≡ with_cell (objects_of shapes words) k cell (datum word)
 write_is [] words k cell word = refl
 write_is (shape ∷ shapes) words zero cell word =
     elim (cases_lt cell shape.cells) [
-      | inl a ↦ rw (lt-ltb cell shape.cells a, take-set-lt shape.cells cell words word a, drop-set-before shape.cells cell words word a, map-set datum (take shape.cells words) cell word) refl
+      | inl a ↦ rw (lt-ltb cell shape.cells a, take-set-lt shape.cells words cell word a, drop-set-lt shape.cells words cell word a, map-set datum (take shape.cells words) cell word) refl
       | inr b ↦ rw (
         le-ltb cell shape.cells b,
         set_past (map datum (take shape.cells words)) cell (datum word)
@@ -236,7 +187,7 @@ blank_data fields zero = refl
 blank_data fields (suc count) = map-append datum (map blank_word fields) (blank_words fields count) ∙ rw (blanks_are fields, blank_data fields count) refl
 
 blank_object : (layouts : List ObjectLayout) (shape : Shape) → shape.cells ≡ shape.count * length (fields_in layouts shape.layout)
-    → object_at shape (blank_words (fields_in layouts shape.layout) shape.count) ≡ object_made layouts shape.layout shape.count
+    → object_at shape (blank_words (fields_in layouts shape.layout) shape.count) ≡ made layouts shape.layout shape.count
 blank_object layouts shape are =
     let fields = fields_in layouts shape.layout in let many = blank_length fields shape.count in
     ap (λ (ws : List Word). let o : Object = record { layout = shape.layout; count = shape.count; cells = map datum ws } in o)
@@ -246,38 +197,17 @@ blank_object layouts shape are =
 pub object_added : (layouts : List ObjectLayout) (shapes : List Shape) (shape : Shape) (words : List Word) → sizes shapes ≡ length words
     → shape.cells ≡ shape.count * length (fields_in layouts shape.layout)
     → objects_of (shapes ++ shape ∷ []) (words ++ blank_words (fields_in layouts shape.layout) shape.count)
-    ≡ objects_of shapes words ++ object_made layouts shape.layout shape.count ∷ []
+    ≡ objects_of shapes words ++ made layouts shape.layout shape.count ∷ []
 object_added layouts shapes shape words sum are =
     objects_push shapes shape words (blank_words (fields_in layouts shape.layout) shape.count) sum
     ∙ ap (λ (o : Object). objects_of shapes words ++ o ∷ []) (blank_object layouts shape are)
 
 -- the bytes with a further object
 pub bytes_added : (layouts : List ObjectLayout) (objects : List Object) (layout count : ℕ)
-    → bytes_taken layouts (objects ++ object_made layouts layout count ∷ []) ≡ bytes_taken layouts objects + max 8 (8 * (count * length (fields_in layouts layout)))
+    → bytes_taken layouts (objects ++ made layouts layout count ∷ []) ≡ bytes_taken layouts objects + max 8 (8 * (count * length (fields_in layouts layout)))
 bytes_added layouts objects layout count =
-    sum_by_push (footprint layouts) objects (object_made layouts layout count)
-    ∙ ap (λ (n : ℕ). bytes_taken layouts objects + n) (footprint_is layouts (object_made layouts layout count))
-
-before-push : (shapes : List Shape) (shape : Shape) (k : ℕ) → k < length shapes → before (shapes ++ shape ∷ []) k ≡ before shapes k
-before-push [] shape k l = absurd (omega arith)
-before-push (one ∷ shapes) shape zero l = refl
-before-push (one ∷ shapes) shape (suc k) l = ap (λ n. one.cells + n) (before-push shapes shape k (below k (length shapes) l))
-
-before-all : (shapes : List Shape) (shape : Shape) → before (shapes ++ shape ∷ []) (length shapes) ≡ sizes shapes
-before-all [] shape = refl
-before-all (one ∷ shapes) shape = ap (λ n. one.cells + n) (before-all shapes shape) ∙ sym (sum_by-cons (λ (x : Shape). x.cells) one shapes)
-
-ordered_push : (shapes : List Shape) (shape : Shape) → AreOrdered shapes → shape.first ≡ sizes shapes → sizes shapes + shape.cells < 2 ^ 32 → AreOrdered (shapes ++ shape ∷ [])
-ordered_push shapes shape are first small =
-    let count = length_push shapes shape in
-    record {
-      firsts = λ k d l. elim (cases_lt k (length shapes)) [
-        | inl a ↦ rw (get_or_append_left shapes (shape ∷ []) d k a, before-push shapes shape k a) (are.firsts k d a)
-        | inr b ↦ (let e : length shapes ≡ k = omega arith in
-            ap (λ (x : Shape). x.first) (get_or_push shapes shape d k e) ∙ first ∙ sym (before-all shapes shape) ∙ ap (before (shapes ++ shape ∷ [])) e)
-      ];
-      small = let s = sum_by_push (λ (x : Shape). x.cells) shapes shape in omega arith;
-    }
+    sum_by_push (footprint layouts) objects (made layouts layout count)
+    ∙ ap (λ (n : ℕ). bytes_taken layouts objects + n) (footprint_is layouts (made layouts layout count))
 
 each_push : (layouts : List ObjectLayout) (shapes : List Shape) (shape : Shape) → ((k : ℕ) (d : Shape) → k < length shapes → HasCells layouts (get_or shapes k d))
     → HasCells layouts shape → (k : ℕ) (d : Shape) → k < length (shapes ++ shape ∷ []) → HasCells layouts (get_or (shapes ++ shape ∷ []) k d)
@@ -288,16 +218,16 @@ each_push layouts shapes shape each has k d l =
       | inr b ↦ (let e : length shapes ≡ k = omega arith in rw (get_or_push shapes shape d k e) has)
     ]
 
-pub laid_added : (layouts : List ObjectLayout) (shapes : List Shape) (words : List Word) (used : ℕ) (shape : Shape) → AreLaid layouts shapes words used
+pub laid_added : (layouts : List ObjectLayout) (shapes : List Shape) (words : List Word) (used : ℕ) (shape : Shape) → AreStored layouts shapes words used
     → HasCells layouts shape → shape.first ≡ length words → used + max 8 (8 * shape.cells) ≤ 67108864
-    → AreLaid layouts (shapes ++ shape ∷ []) (words ++ blank_words (fields_in layouts shape.layout) shape.count) (used + max 8 (8 * shape.cells))
+    → AreStored layouts (shapes ++ shape ∷ []) (words ++ blank_words (fields_in layouts shape.layout) shape.count) (used + max 8 (8 * shape.cells))
 laid_added layouts shapes words used shape are has first fits =
     let sum = sum_by_push (λ (x : Shape). x.cells) shapes shape in let count = length_push shapes shape in
     let many = length-append words (blank_words (fields_in layouts shape.layout) shape.count) in
     let blanks = blank_length (fields_in layouts shape.layout) shape.count in
     record {
-      ordered = ordered_push shapes shape are.ordered (first ∙ sym are.whole) (omega (arith, are.cells_fit));
-      whole = omega (arith, are.whole, has.are);
+      laid = laid_push shapes (length words) shape (length (words ++ blank_words (fields_in layouts shape.layout) shape.count)) are.laid first
+          (omega (arith, has.are)) (omega (arith, are.laid.whole, are.cells_fit, has.are));
       each = each_push layouts shapes shape are.each has;
       cells_fit = omega (arith, are.cells_fit);
       count_fits = omega (arith, are.count_fits);
@@ -305,18 +235,18 @@ laid_added layouts shapes words used shape are has first fits =
           ap (λ (n : ℕ). n + max 8 (8 * shape.cells)) are.used_is
           ∙ ap (λ (n : ℕ). bytes_taken layouts (objects_of shapes words) + max 8 (8 * n)) has.are
           ∙ sym (bytes_added layouts (objects_of shapes words) shape.layout shape.count)
-          ∙ ap (bytes_taken layouts) (sym (object_added layouts shapes shape words are.whole has.are));
+          ∙ ap (bytes_taken layouts) (sym (object_added layouts shapes shape words are.laid.whole has.are));
       fits = fits;
     }
 
 pub full_is : (layouts : List ObjectLayout) (objects : List Object) (layout count used : ℕ) (fields : List Cell) → used ≡ bytes_taken layouts objects
-    → fields ≡ fields_in layouts layout → 67108864 < used + max 8 (8 * (count * length fields)) → is_full layouts (objects ++ object_made layouts layout count ∷ []) ≡ true
+    → fields ≡ fields_in layouts layout → 67108864 < used + max 8 (8 * (count * length fields)) → is_full layouts (objects ++ made layouts layout count ∷ []) ≡ true
 full_is layouts objects layout count used fields used_is fields_are more =
     rw (bytes_added layouts objects layout count, ← used_is, ← fields_are) (lt-ltb 67108864 (used + max 8 (8 * (count * length fields))) more)
 
 pub not_full_is : (layouts : List ObjectLayout) (objects : List Object) (layout count used cells : ℕ) (fields : List Cell) → used ≡ bytes_taken layouts objects
     → fields ≡ fields_in layouts layout → cells ≡ count * length fields → used + max 8 (8 * cells) ≤ 67108864
-    → is_full layouts (objects ++ object_made layouts layout count ∷ []) ≡ false
+    → is_full layouts (objects ++ made layouts layout count ∷ []) ≡ false
 not_full_is layouts objects layout count used cells fields used_is fields_are cells_are fits =
     rw (bytes_added layouts objects layout count, ← used_is, ← fields_are, ← cells_are) (le-ltb 67108864 (used + max 8 (8 * cells)) fits)
 

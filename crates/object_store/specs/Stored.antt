@@ -8,10 +8,12 @@ use Rattle.ir_ast.specs.declared.cells.Cell.{Cell}
 use Rattle.ir_ast.specs.declared.cells.Cell.TheVariants.{I64, Ptr}
 use Rattle.ir_ast.specs.Layouts.{ObjectLayout}
 use Rattle.ir_ast.specs.Sizes.{fields_in}
-use Rattle.ir_ast.specs.Objects.{Pointer, Datum, Object, footprint, new_object}
+use Rattle.ir_ast.specs.Objects.{Pointer, Datum, Object, footprint}
 use Rattle.object_meaning.specs.Accesses.{Place, accessed, within, loaded, stored}
+use Rattle.object_meaning.specs.Calls.{made}
 use Rattle.object_meaning.specs.Registers.{nothing}
-use Rattle.object_store.specs.declared.cells.Shape.{Shape}
+use Rattle.cell_rows.specs.declared.shapes.Shape.{Shape}
+use Rattle.cell_rows.specs.Rows.{AreLaid, sizes}
 use Rattle.object_store.specs.declared.cells.Spot.{Spot}
 use Rattle.object_store.specs.declared.words.Word.{Word}
 use Rattle.object_store.specs.Words.{datum}
@@ -44,21 +46,17 @@ stored_result (Err trap) objects = Err trap
 abbrev pub bytes_taken : List ObjectLayout → List Object → ℕ
 bytes_taken layouts objects = sum_by (footprint layouts) objects
 
--- a new object of a layout
-abbrev pub object_made : List ObjectLayout → ℕ → ℕ → Object
-object_made layouts layout count = new_object layout (fields_in layouts layout) count
-
 -- whether objects take more than the heap has
 abbrev pub is_full : List ObjectLayout → List Object → Bool
 is_full layouts objects = nat_lt 67108864 (bytes_taken layouts objects)
 
 -- a new object has the next number; where the heap has no room for it, there is none
 abbrev pub Makes : Store → Store → ℕ → ℕ → Option ℕ → Type 0
-Makes old new layout count None = (is_full old.layouts (old.objects ++ object_made old.layouts layout count ∷ []) ≡ true) × (new ≡ old)
+Makes old new layout count None = (is_full old.layouts (old.objects ++ made old.layouts layout count ∷ []) ≡ true) × (new ≡ old)
 Makes old new layout count (Some number) =
-    (is_full old.layouts (old.objects ++ object_made old.layouts layout count ∷ []) ≡ false)
+    (is_full old.layouts (old.objects ++ made old.layouts layout count ∷ []) ≡ false)
     × (number ≡ length old.objects + 1)
-    × (new ≡ record old { objects = old.objects ++ object_made old.layouts layout count ∷ [] })
+    × (new ≡ record old { objects = old.objects ++ made old.layouts layout count ∷ [] })
 
 -- ---- how they stand in one list
 
@@ -78,20 +76,6 @@ blank_word Ptr = record { is_pointer = true; object = 0; bits = 0 }
 abbrev pub blank_words : List Cell → ℕ → List Word
 blank_words fields zero = []
 blank_words fields (suc count) = map blank_word fields ++ blank_words fields count
-
-abbrev pub sizes : List Shape → ℕ
-sizes shapes = sum_by (λ shape. shape.cells) shapes
-
-abbrev pub before : List Shape → ℕ → ℕ
-before [] object = 0
-before (shape ∷ shapes) zero = 0
-before (shape ∷ shapes) (suc object) = shape.cells + before shapes object
-
--- where a cell stands among all cells
-abbrev pub place_in : List Shape → ℕ → ℕ → Option ℕ
-place_in [] object cell = None
-place_in (shape ∷ shapes) zero cell = if nat_lt cell shape.cells then Some cell else None
-place_in (shape ∷ shapes) (suc object) cell = option_map (λ place. shape.cells + place) (place_in shapes object cell)
 
 -- what the cell at this place holds
 abbrev pub held : List Datum → Option ℕ → Datum
@@ -114,18 +98,14 @@ abbrev pub place_result : Result Spot Trap → Result Place Trap
 place_result (Ok spot) = Ok (record { object = spot.object; offset = spot.offset; cell = spot.cell })
 place_result (Err trap) = Err trap
 
-pub record AreOrdered (shapes : List Shape) : Type 0 where
-  pub firsts : (k : ℕ) (d : Shape) → k < length shapes → (slice_index_or shapes k d).first ≡ before shapes k
-  pub small : sizes shapes < 2 ^ 32
-
 -- a shape has the cells of its elements
 pub record HasCells (layouts : List ObjectLayout) (shape : Shape) : Type 0 where
   pub are : shape.cells ≡ shape.count * length (fields_in layouts shape.layout)
   pub few : shape.cells < 2 ^ 32
 
-pub record AreLaid (layouts : List ObjectLayout) (shapes : List Shape) (words : List Word) (used : ℕ) : Type 0 where
-  pub ordered : AreOrdered shapes
-  pub whole : sizes shapes ≡ length words
+-- what is kept of a store
+pub record AreStored (layouts : List ObjectLayout) (shapes : List Shape) (words : List Word) (used : ℕ) : Type 0 where
+  pub laid : AreLaid shapes (length words)
   pub each : (k : ℕ) (d : Shape) → k < length shapes → HasCells layouts (slice_index_or shapes k d)
   pub cells_fit : 8 * sizes shapes ≤ used
   pub count_fits : 8 * length shapes ≤ used

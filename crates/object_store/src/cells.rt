@@ -1,23 +1,15 @@
-//! Where the cells of objects stand among all cells.
+//! The cells that pointers reach, and those of new objects.
 
 ghost use Rattle.std.specs.Prelude.{◌≡◌, ◌==◌, ◌+◌, ◌*◌, ◌<◌, ◌≤◌, ◌^◌, ◌++◌, ℕ, length, map, vec_capacity, slice_index_or};
 ghost use Rattle.ir_ast.specs.Cells.{kind_of};
-ghost use Rattle.ir_ast.specs.Sizes.{fields_in};
 ghost use Rattle.object_meaning.specs.Accesses.{within};
-ghost use Rattle.object_store.specs.Stored.{AreOrdered, HasCells, place_in, place_result, reached, blank_word, blank_words};
+ghost use Rattle.cell_rows.specs.declared.shapes.Shape.{Shape};
+ghost use Rattle.object_store.specs.Stored.{HasCells, place_result, reached, blank_word, blank_words};
 
 use crate::words::Word;
+use cell_rows::{Shape, fields_of};
 use ir_ast::{Cell, Layout};
 use sp_ids::Trap;
-
-/// An object: its layout by its place, how many elements it has, and where its cells stand.
-#[derive(Clone, Copy, Debug, PartialEq, Eq)]
-pub struct Shape {
-    pub count: u64,
-    pub layout: u32,
-    pub first: u32,
-    pub cells: u32,
-}
 
 /// The cell of an object that a pointer reaches.
 #[derive(Clone, Copy, Debug, PartialEq, Eq)]
@@ -25,22 +17,6 @@ pub struct Spot {
     pub object: u32,
     pub offset: u64,
     pub cell: u64,
-}
-
-/// Where a cell of an object stands.
-pub(crate) fn place_of(shapes: &[Shape], object: usize, cell: u64) -> Option<usize>
-    requires { AreOrdered shapes.now }
-    ensures { result ≡ place_in shapes.now object cell }
-{
-    if object >= shapes.len() {
-        return None;
-    }
-    let shape = shapes[object];
-    if cell < u64::from(shape.cells) {
-        Some(shape.first as usize + cell as usize)
-    } else {
-        None
-    }
 }
 
 /// The cell that a pointer reaches, or the trap.
@@ -63,16 +39,6 @@ pub(crate) fn reach(
     let shape = shapes[(object - 1) as usize];
     let fields = fields_of(layouts, shape.layout);
     within(object, offset, fields, asked, shape.count)
-}
-
-/// The fields of a layout.
-pub fn fields_of(layouts: &[Layout], layout: u32) -> &[Cell]
-    ensures { result.now ≡ fields_in layouts.now layout }
-{
-    match layouts.get(layout as usize) {
-        None => &[],
-        Some(layout) => layout.fields(),
-    }
 }
 
 // The cell at an offset of an object with so many elements.

@@ -5,6 +5,5 @@ mod cells;
 mod objects;
 mod words;
 
-pub use cells::fields_of;
 pub use objects::Objects;
 pub use words::Word;

@@ -4,12 +4,14 @@ ghost use Rattle.std.specs.Prelude.{◌≡◌, ℕ, ◌+◌, ◌*◌, ◌≤◌,
 ghost use Rattle.ir_ast.specs.Objects.{footprint};
 ghost use Rattle.object_meaning.specs.Accesses.{loaded, stored};
 ghost use Rattle.object_meaning.specs.Registers.{nothing, pointer_in};
-ghost use Rattle.object_store.specs.Stored.{held, written, AreOrdered, HasCells, sizes, objects_of, load_of, store_of, stored_result, blank_words, Makes};
-ghost use Rattle.object_store.specs.declared.cells.Shape.{Shape};
+ghost use Rattle.cell_rows.specs.declared.shapes.Shape.{Shape};
+ghost use Rattle.cell_rows.specs.Rows.{AreLaid, AreOrdered, bytes_of};
+ghost use Rattle.object_store.specs.Stored.{held, written, HasCells, objects_of, load_of, store_of, stored_result, blank_words, Makes};
 ghost use Rattle.object_store.specs.Words.{datum, datum_result};
 
-use crate::cells::{Shape, add_blanks, fields_of, place_of, reach};
+use crate::cells::{add_blanks, reach};
 use crate::words::Word;
+use cell_rows::{Shape, bytes_of, fields_of, place_of};
 use ir_ast::{Cell, Layout};
 use sp_ids::limits::HEAP_BYTES;
 use sp_ids::{Memory, Trap};
@@ -26,13 +28,13 @@ pub struct Objects<'m> {
 }
 
 impl<'m> Model for Objects<'m> {
-    ghost use Rattle.object_store.specs.Stored.{Store, objects_of, AreLaid};
+    ghost use Rattle.object_store.specs.Stored.{Store, objects_of, AreStored};
 
     ghost Value = { Store };
 
     ghost view = { λ o. record { layouts = o.layouts.now; objects = objects_of o.shapes.items o.words.items } };
 
-    ghost invariant = { λ o. AreLaid o.layouts.now o.shapes.items o.words.items o.used };
+    ghost invariant = { λ o. AreStored o.layouts.now o.shapes.items o.words.items o.used };
 }
 
 impl<'m> Objects<'m> {
@@ -78,7 +80,7 @@ impl<'m> Objects<'m> {
             cells,
         };
         push_object(&mut self.shapes, &mut self.words, shape, fields)?;
-        self.used += footprint_of(cells);
+        self.used += bytes_of(cells);
         Ok(Some(self.shapes.len() as u32))
     }
 
@@ -157,9 +159,8 @@ fn load(
     asked: Cell,
     at: Word,
 ) -> Result<Word, Trap>
-    requires ordered { AreOrdered shapes.now }
+    requires laid { AreLaid shapes.now (length words.now) }
     requires each { (k : ℕ) (d : Shape) → k < length shapes.now → HasCells layouts.now (slice_index_or shapes.now k d) }
-    requires whole { sizes shapes.now ≡ length words.now }
     ensures { datum_result result ≡ load_of (record { layouts = layouts.now; objects = objects_of shapes.now words.now }) asked (pointer_in (datum at)) }
 {
     match reach(layouts, shapes, asked, at.object(), at.offset()) {
@@ -198,21 +199,15 @@ fn word_of(words: &[Word], place: usize) -> Word
 // The cells of so many elements with these fields, where the heap has room for them.
 fn room_of(fields: &[Cell], count: u64, used: u64) -> Option<u32>
     requires { used ≤ 67108864 }
-    ensures some { IfSome result (λ cells. (cells ≡ count * length fields.now) × (used + max 8 (8 * cells) ≤ 67108864)) }
-    ensures none { IfNone result (67108864 < used + max 8 (8 * (count * length fields.now))) }
+    ensures some { IfSome result (λ cells. (cells ≡ count * length fields.now) × (used + bytes_of cells ≤ 67108864)) }
+    ensures none { IfNone result (67108864 < used + bytes_of (count * length fields.now)) }
 {
     let cells = count.checked_mul(fields.len() as u64)?;
-    if cells <= HEAP_BYTES / 8 && footprint_of(cells as u32) <= HEAP_BYTES - used {
+    if cells <= HEAP_BYTES / 8 && bytes_of(cells as u32) <= HEAP_BYTES - used {
         Some(cells as u32)
     } else {
         None
     }
-}
-
-fn footprint_of(cells: u32) -> u64
-    ensures { result ≡ max 8 (8 * cells) }
-{
-    (u64::from(cells) * 8).max(8)
 }
 
 // A further object, whose cells are blank.

@@ -2,7 +2,8 @@ use Rattle.std.proofs.Common.{List, ◌++◌, sym, ap, ◌∙◌, arith, length,
 use Rattle.std.proofs.lemmas.List.{length-append}
 use Rattle.object_store.specs.declared.words.Word.{Word}
 use Rattle.object_store.specs.Stored.{blank_word, blank_words}
-use Rattle.object_store.proofs.CellLemmas.{blank_more, blank_length, turn_fits}
+use Rattle.cell_rows.proofs.RowLemmas.{turn_fits}
+use Rattle.object_store.proofs.CellLemmas.{blank_more, blank_length}
 use Rattle.object_store.proofs.cells.add_blanks.Goals as goal
 
 pub add_element-requires : goal.add_element-requires

@@ -2,7 +2,7 @@ use Rattle.std.proofs.Common.{◌-◌, List, get_or, sym, ap, ◌∙◌, arith}
 use Rattle.ir_ast.specs.declared.cells.Cell.{Cell}
 use Rattle.ir_ast.specs.Objects.{Pointer}
 use Rattle.object_meaning.specs.Accesses.{within}
-use Rattle.object_store.specs.declared.cells.Shape.{Shape}
+use Rattle.cell_rows.specs.declared.shapes.Shape.{Shape}
 use Rattle.object_store.proofs.CellLemmas.{some_object}
 use Rattle.object_store.proofs.cells.reach.Goals as goal
 

@@ -1,6 +1,7 @@
 use Rattle.std.proofs.Common.{ℕ, ◌-◌, sym, ap, ◌∙◌}
 use Rattle.std.specs.Prelude.{Option}
-use Rattle.object_store.specs.Stored.{objects_of, place_in, written}
+use Rattle.cell_rows.specs.Rows.{place_in}
+use Rattle.object_store.specs.Stored.{objects_of, written}
 use Rattle.object_store.specs.Words.{datum}
 use Rattle.object_store.proofs.CellLemmas.{write_is, with_cell_is}
 use Rattle.object_store.proofs.objects.set_word.Goals as goal

@@ -1,5 +1,6 @@
 use Rattle.std.proofs.Common.{ℕ, ◌-◌, map, sym, ap, ◌∙◌}
-use Rattle.object_store.specs.Stored.{held, place_in}
+use Rattle.cell_rows.specs.Rows.{place_in}
+use Rattle.object_store.specs.Stored.{held}
 use Rattle.object_store.specs.Words.{datum}
 use Rattle.object_store.proofs.CellLemmas.{loaded_is}
 use Rattle.object_store.proofs.objects.word_at.Goals as goal

@@ -18,19 +18,19 @@ pub overflow_cast-result : goal.overflow_cast-result
 overflow_cast-result c =
     let parts = c.self.inside.parts.items in
     let all = ap length c.as_slice-parts.ensures.value in
-    let at = size_at parts c.self.inside.widths.items c.self.inside.counts.items c.self.inside.kinds.items c.self.inside.words.items c.args.object c.self.invariant.0 c.self.invariant.2.whole (omega arith) in
+    let at = size_at parts c.self.inside.widths.items c.self.inside.counts.items c.self.inside.kinds.items c.self.inside.words.items c.args.object c.self.invariant.0 c.self.invariant.2.laid.whole (omega arith) in
     let small = ap (λ (contents : List Content). get_or (sizes_of contents) c.args.object 0) c.self.view_is in
     let first = rw c.as_slice-parts.ensures.value at c.begin_of-first.ensures in
     let cells = rw c.as_slice-parts.ensures.value at c.saturating_sub-cells.ensures in
-    omega (arith, c.requires, c.max.ensures, c.from.ensures)
+    omega (arith, c.requires, c.bytes_of.ensures)
 
 pub returns : goal.returns
 returns c =
     let parts = c.self.inside.parts.items in
     let all = ap length c.as_slice-parts.ensures.value in
-    let at = size_at parts c.self.inside.widths.items c.self.inside.counts.items c.self.inside.kinds.items c.self.inside.words.items c.args.object c.self.invariant.0 c.self.invariant.2.whole (omega arith) in
+    let at = size_at parts c.self.inside.widths.items c.self.inside.counts.items c.self.inside.kinds.items c.self.inside.words.items c.args.object c.self.invariant.0 c.self.invariant.2.laid.whole (omega arith) in
     let seen = ap (λ (contents : List Content). get_or (sizes_of contents) c.args.object 0) c.self.view_is in
     let first = rw c.as_slice-parts.ensures.value at c.begin_of-first.ensures in
     let cells = rw c.as_slice-parts.ensures.value at c.saturating_sub-cells.ensures in
-    let same : c.max.result ≡ max 8 (8 * ((get_or parts c.args.object nothing_kept).end - begins 0 parts c.args.object)) = omega (arith, c.max.ensures, c.from.ensures) in
+    let same : c.bytes_of.result ≡ max 8 (8 * ((get_or parts c.args.object nothing_kept).end - begins 0 parts c.args.object)) = omega (arith, c.bytes_of.ensures) in
     same ∙ sym at ∙ seen

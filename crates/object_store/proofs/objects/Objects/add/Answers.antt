@@ -2,7 +2,7 @@ use Rattle.std.proofs.Common.{◌*◌, List, length, refl, ap, ◌∙◌, arith}
 use Rattle.std.proofs.lemmas.List.{length_push}
 use Rattle.ir_ast.specs.declared.cells.Cell.{Cell}
 use Rattle.ir_ast.specs.Objects.{Object}
-use Rattle.object_store.specs.declared.cells.Shape.{Shape}
+use Rattle.cell_rows.specs.declared.shapes.Shape.{Shape}
 use Rattle.object_store.specs.Stored.{Store, objects_of, HasCells}
 use Rattle.object_store.proofs.CellLemmas.{object_added, laid_added, full_is, not_full_is, count_is}
 use Rattle.object_store.proofs.objects.Objects.add.Goals as goal
@@ -23,7 +23,7 @@ invariant_of-self-2 c =
       are = some.0 ∙ ap (λ (fs : List Cell). c.args.count * length fs) c.fields_of-fields.ensures;
       few = omega (arith, some.1);
     } in
-    rw (c.in_ok-push_object.ensures.shapes, c.in_ok-push_object.ensures.words, c.footprint_of.ensures, c.fields_of-fields.ensures)
+    rw (c.in_ok-push_object.ensures.shapes, c.in_ok-push_object.ensures.words, c.bytes_of.ensures, c.fields_of-fields.ensures)
     (laid_added c.self.inside.layouts.now c.self.inside.shapes.items c.self.inside.words.items c.self.inside.used shape c.self.invariant has (omega arith) some.1)
 
 pub returns-clause-made : goal.returns-clause-made
@@ -32,7 +32,7 @@ returns-clause-made c =
     let shape : Shape = record { count = c.args.count; layout = c.args.layout; first = c.len.result; cells = c.in-Some.cells } in
     let some = c.in-Some.ensures.some in
     let are = some.0 ∙ ap (λ (fs : List Cell). c.args.count * length fs) c.fields_of-fields.ensures in
-    let added = object_added c.self.inside.layouts.now c.self.inside.shapes.items shape c.self.inside.words.items c.self.invariant.whole are in
+    let added = object_added c.self.inside.layouts.now c.self.inside.shapes.items shape c.self.inside.words.items c.self.invariant.laid.whole are in
     let pushed = ap length c.in_ok-push_object.ensures.shapes ∙ length_push c.self.inside.shapes.items shape in
     let counted = count_is c.self.inside.shapes.items c.self.inside.words.items in
     rw (← c.self.view_is) (

@@ -8,8 +8,7 @@ invariant_of-self c =
     let words = with_items_is c.self.inside.words c.store.new.words (c.store.ensures.count ∙ c.as_mut_slice.ensures.len) in
     let count = c.store.ensures.count ∙ ap length c.as_mut_slice.ensures.value in
     rw words (record {
-      ordered = c.self.invariant.ordered;
-      whole = c.self.invariant.whole ∙ sym count;
+      laid = record { ordered = c.self.invariant.laid.ordered; whole = c.self.invariant.laid.whole ∙ sym count };
       each = c.self.invariant.each;
       cells_fit = c.self.invariant.cells_fit;
       count_fits = c.self.invariant.count_fits;

@@ -1,8 +1,8 @@
 use Rattle.std.proofs.Common.{◌<◌, ◌≤◌, get_or, sym, arith, rules}
 use Rattle.std.proofs.lemmas.Bool.{lt-ltb, le-ltb}
-use Rattle.object_store.specs.declared.cells.Shape.{Shape}
-use Rattle.object_store.proofs.CellLemmas.{place_is, place_past}
-use Rattle.object_store.proofs.cells.place_of.Goals as goal
+use Rattle.cell_rows.specs.declared.shapes.Shape.{Shape}
+use Rattle.cell_rows.proofs.RowLemmas.{place_is, place_past}
+use Rattle.cell_rows.proofs.shapes.place_of.Goals as goal
 
 abbrev empty : Shape
 empty = record { count = 0; layout = 0; first = 0; cells = 0 }
