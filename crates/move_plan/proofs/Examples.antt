@@ -5,11 +5,10 @@ use Rattle.std.specs.Fmt.{digits}
 use Rattle.move_plan.specs.declared.plan_lines.PlanLine.{PlanLine}
 use Rattle.move_plan.specs.declared.plan_lines.PlanLine.TheVariants.{Every, Move, Flip, Go}
 use Rattle.move_plan.specs.Words.{words}
-use Rattle.move_plan.specs.Texts.{HasLine, TextSays}
-use Rattle.move_plan.specs.PlanLines.{Spells, ReadsAs}
+use Rattle.move_plan.specs.PlanLines.{Spells}
 use Rattle.move_plan.specs.Decoded.{decoded, numeral_after}
 use Rattle.move_plan.specs.Plans.{flips, go, group, IsPlanOf}
-use Rattle.move_plan.specs.PlanFaults.{HasFault, LineSays, falls, second_go, order, two_go}
+use Rattle.move_plan.specs.PlanFaults.{HasFault, falls, second_go, order, two_go}
 use Rattle.move_plan.specs.InputNumbers.{HoldsNumber, negative, positive}
 use Rattle.move_plan.specs.Inputs.{IsInputOf}
 use Rattle.std.proofs.lemmas.Int.{ints}

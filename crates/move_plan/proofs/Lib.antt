@@ -1,4 +1,5 @@
 pub mod DecodeLemmas
+pub mod EitherLaws
 pub mod EventLemmas
 pub mod FaultLaws
 pub mod GroupLemmas

@@ -1,12 +1,13 @@
-//! A line has at most one reading, and a text at most one plan, one input and one first fault.
+//! A line has at most one reading, and a text stands for exactly one plan or has one least fault, and for exactly one input or
+//! has one first fault.
 
-ghost use Rattle.std.specs.Prelude.{◌≡◌, ℕ, ℤ, List, Option};
+ghost use Rattle.std.specs.Prelude.{◌≡◌, ◌⊎◌, ℕ, ℤ, List, Option};
 ghost use Rattle.move_plan.specs.declared.plan_lines.PlanLine.{PlanLine as Said};
 ghost use Rattle.move_plan.specs.PlanLines.{ReadsAs};
 ghost use Rattle.move_plan.specs.Plans.{IsPlanOf};
-ghost use Rattle.move_plan.specs.PlanFaults.{IsLeastFault};
+ghost use Rattle.move_plan.specs.PlanFaults.{HasNoFault, IsLeastFault};
 ghost use Rattle.move_plan.specs.InputNumbers.{Holds};
-ghost use Rattle.move_plan.specs.Inputs.{IsFirstInputFault, IsInputOf};
+ghost use Rattle.move_plan.specs.Inputs.{HasNoInputFault, IsFirstInputFault, IsInputOf};
 
 /// A line of a plan has at most one reading: it is blank, or says one thing.
 pub fn one_reading()
@@ -37,4 +38,14 @@ pub fn one_input()
 /// An input's text has at most one first fault.
 pub fn one_input_fault()
     ensures { (text : List ℕ) (line other : ℕ) → IsFirstInputFault text line → IsFirstInputFault text other → line ≡ other }
+{}
+
+/// A text stands for a plan and has no fault, or it has a least fault. So every text without a fault stands for a plan.
+pub fn plan_or_fault()
+    ensures { (text : List ℕ) → ((plan : List Said) × IsPlanOf text plan × HasNoFault text) ⊎ ((line : ℕ) × (code : ℕ) × IsLeastFault text line code) }
+{}
+
+/// A text stands for an input and has no fault, or it has a first fault. So every text without a fault stands for an input.
+pub fn input_or_fault()
+    ensures { (text : List ℕ) → ((numbers : List ℤ) × IsInputOf text numbers × HasNoInputFault text) ⊎ ((line : ℕ) × IsFirstInputFault text line) }
 {}

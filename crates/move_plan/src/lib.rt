@@ -14,6 +14,9 @@ mod words;
 
 pub use faults::{InputFault, PlanFault};
 pub use inputs::read_input;
-pub use laws::{one_fault, one_input, one_input_fault, one_number, one_plan, one_reading};
+pub use laws::{
+    input_or_fault, one_fault, one_input, one_input_fault, one_number, one_plan, one_reading,
+    plan_or_fault,
+};
 pub use plan_lines::{Move, PlanLine};
 pub use plans::Plan;
