@@ -1,0 +1,4 @@
+pub mod Compacting
+pub mod Objects
+pub mod Packed
+pub mod Promises

@@ -1,0 +1,10 @@
+//! A plan that lays the objects of a run side by side at one of its events.
+#![tactic(auto)]
+
+mod laws;
+mod made;
+mod planner;
+
+pub use laws::{compacted_is_plan, event_compacts, others_stay};
+pub use made::Made;
+pub use planner::{CompactFault, compact};
