@@ -1,2 +1,3 @@
 pub mod PackLemmas
 pub mod LineLaws
+pub mod PlanLaws
