@@ -1,3 +1,5 @@
 pub mod PackLemmas
 pub mod LineLaws
 pub mod PlanLaws
+pub mod HeapLaws
+mod Samples

@@ -87,7 +87,6 @@ passed event (Go own task) isnt = behind (passed_other event (Go own task) refl 
 pub front_within : (event : ℕ) (line : PlanLine) → is_front event line ≡ true → event_of line ≤ event
 front_within event line is = leb-true (event_of line) event (and_parts (leb (event_of line) event) (not (is_some (move_at event line))) is).0
 
-
 pub later_behind : (event : ℕ) (line : PlanLine) → is_later event line ≡ true → event < event_of line
 later_behind event line is = ltb-true event (event_of line) is
 
@@ -127,20 +126,20 @@ pub answers_same : {Y : Type 0} (f : PlanLine → Option Y) (at event : ℕ) →
     → filter_map f (compacted plan made event) ≡ filter_map f plan
 answers_same f at event asks plan made =
     let parts : filter_map f (compacted plan made event) ≡ (filter_map f (front_lines plan event) ++ filter_map f (packing made event)) ++ filter_map f (later_lines plan event)
-        = filter_map-append f (front_lines plan event ++ packing made event) (later_lines plan event)
-          ∙ ap (λ l. l ++ filter_map f (later_lines plan event)) (filter_map-append f (front_lines plan event) (packing made event)) in
+    = filter_map-append f (front_lines plan event ++ packing made event) (later_lines plan event)
+    ∙ ap (λ l. l ++ filter_map f (later_lines plan event)) (filter_map-append f (front_lines plan event) (packing made event)) in
     let middle : filter_map f (packing made event) ≡ [] = packed_silent f event asks.moves 1 1099511627776 made in
     elim (le_or_lt at event) [
       | inl within ↦
           let front : filter_map f (front_lines plan event) ≡ filter_map f plan = kept_all f (is_front event) (front_answers f at event asks within) plan in
           let behind : filter_map f (later_lines plan event) ≡ [] =
-              kept_none f (is_later event) (λ line is. asks.elsewhere line (λ e. let after = later_behind event line is in let no : ⊥ = omega (arith, e, after, within) in no)) plan in
+          kept_none f (is_later event) (λ line is. asks.elsewhere line (λ e. let after = later_behind event line is in let no : ⊥ = omega (arith, e, after, within) in no)) plan in
           parts ∙ rw (front, middle, behind) (append_nil (filter_map f plan ++ []) ∙ append_nil (filter_map f plan))
       | inr after ↦
           let front : filter_map f (front_lines plan event) ≡ [] =
-              kept_none f (is_front event) (λ line is. asks.elsewhere line (λ e. let within = front_within event line is in let no : ⊥ = omega (arith, e, after, within) in no)) plan in
+          kept_none f (is_front event) (λ line is. asks.elsewhere line (λ e. let within = front_within event line is in let no : ⊥ = omega (arith, e, after, within) in no)) plan in
           let behind : filter_map f (later_lines plan event) ≡ filter_map f plan =
-              kept_all f (is_later event) (λ line isnt. asks.elsewhere line (λ e. let within = not_later event line isnt in let no : ⊥ = omega (arith, e, after, within) in no)) plan in
+          kept_all f (is_later event) (λ line isnt. asks.elsewhere line (λ e. let within = not_later event line isnt in let no : ⊥ = omega (arith, e, after, within) in no)) plan in
           parts ∙ rw (front, middle, behind) refl
     ]
 
@@ -204,9 +203,9 @@ flips_same plan made event at =
     let p = flips_at at in
     list_any-append p (front_lines plan event ++ packing made event) (later_lines plan event)
     ∙ ap (λ b. b || list_any p (later_lines plan event))
-      (list_any-append p (front_lines plan event) (packing made event)
-       ∙ ap (λ b. list_any p (front_lines plan event) || b) (moves_stay event 1 1099511627776 made at)
-       ∙ or_false (list_any p (front_lines plan event)))
+    (list_any-append p (front_lines plan event) (packing made event)
+    ∙ ap (λ b. list_any p (front_lines plan event) || b) (moves_stay event 1 1099511627776 made at)
+    ∙ or_false (list_any p (front_lines plan event)))
     ∙ any_parts p (is_front event) (is_later event) (λ line isnt not_behind. nowhere at event line isnt not_behind) plan
 
 pub others_stay : OthersStay

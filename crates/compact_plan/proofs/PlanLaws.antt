@@ -161,26 +161,26 @@ compacted_is_plan plan made event is packs numbered few =
     let sum : sum_by (λ (m : Made). m.footprint) made ≤ 67108864 = packs.within in
     let are : All (IsMoveAt event) moves = are_moves event 1 1099511627776 made (omega (arith, count, sum)) (omega (arith, sum)) in
     let fronts : All (λ line. event_of line ≤ event) front = All-from_get_or (λ line. event_of line ≤ event) front (Flip 0)
-        (λ k within. front_within event (get_or front k (Flip 0)) (All-get_or (λ line. is_front event line ≡ true) front k (Flip 0) within (filter_passes (is_front event) plan))) in
+    (λ k within. front_within event (get_or front k (Flip 0)) (All-get_or (λ line. is_front event line ≡ true) front k (Flip 0) within (filter_passes (is_front event) plan))) in
     let laters : All (λ line. event < event_of line) later = All-from_get_or (λ line. event < event_of line) later (Flip 0)
-        (λ k within. later_behind event (get_or later k (Flip 0)) (All-get_or (λ line. is_later event line ≡ true) later k (Flip 0) within (filter_passes (is_later event) plan))) in
+    (λ k within. later_behind event (get_or later k (Flip 0)) (All-get_or (λ line. is_later event line ≡ true) later k (Flip 0) within (filter_passes (is_later event) plan))) in
     let moved : All (λ line. event_of line ≤ event) moves = All-from_get_or (λ line. event_of line ≤ event) moves (Flip 0)
-        (λ k within. (let one = All-get_or (IsMoveAt event) moves k (Flip 0) within are in rw one.is (omega arith))) in
+    (λ k within. (let one = All-get_or (IsMoveAt event) moves k (Flip 0) within are in rw one.is (omega arith))) in
     let first : AllPairs Follows (front ++ moves) = all_pairs_append Follows front moves (AllPairs-filter Follows (is_front event) plan pairs) (moves_follow event moves are)
-        (All-from_get_or (λ x. All (Follows x) moves) front (Flip 0) (λ k within.
-          All-from_get_or (Follows (get_or front k (Flip 0))) moves (Flip 0) (λ j inside.
-            move_follows event (get_or front k (Flip 0)) (get_or moves j (Flip 0))
-            (All-get_or (λ line. event_of line ≤ event) front k (Flip 0) within fronts) (All-get_or (IsMoveAt event) moves j (Flip 0) inside are)))) in
+    (All-from_get_or (λ x. All (Follows x) moves) front (Flip 0) (λ k within.
+    All-from_get_or (Follows (get_or front k (Flip 0))) moves (Flip 0) (λ j inside.
+    move_follows event (get_or front k (Flip 0)) (get_or moves j (Flip 0))
+    (All-get_or (λ line. event_of line ≤ event) front k (Flip 0) within fronts) (All-get_or (IsMoveAt event) moves j (Flip 0) inside are)))) in
     let up_to : All (λ line. event_of line ≤ event) (front ++ moves) = All-append (λ line. event_of line ≤ event) front moves fronts moved in
     let all : AllPairs Follows (compacted plan made event) = all_pairs_append Follows (front ++ moves) later first (AllPairs-filter Follows (is_later event) plan pairs)
-        (All-from_get_or (λ x. All (Follows x) later) (front ++ moves) (Flip 0) (λ k within.
-          All-from_get_or (Follows (get_or (front ++ moves) k (Flip 0))) later (Flip 0) (λ j inside.
-            later_follows event (get_or (front ++ moves) k (Flip 0)) (get_or later j (Flip 0))
-            (All-get_or (λ line. event_of line ≤ event) (front ++ moves) k (Flip 0) within up_to) (All-get_or (λ line. event < event_of line) later j (Flip 0) inside laters)))) in
+    (All-from_get_or (λ x. All (Follows x) later) (front ++ moves) (Flip 0) (λ k within.
+    All-from_get_or (Follows (get_or (front ++ moves) k (Flip 0))) later (Flip 0) (λ j inside.
+    later_follows event (get_or (front ++ moves) k (Flip 0)) (get_or later j (Flip 0))
+    (All-get_or (λ line. event_of line ≤ event) (front ++ moves) k (Flip 0) within up_to) (All-get_or (λ line. event < event_of line) later j (Flip 0) inside laters)))) in
     record {
       in_range = All-append IsInRange (front ++ moves) later
           (All-append IsInRange front moves (All-filter (is_front event) IsInRange plan is.in_range)
-           (All-from_get_or IsInRange moves (Flip 0) (λ k within. in_range event (get_or moves k (Flip 0)) numbered (All-get_or (IsMoveAt event) moves k (Flip 0) within are))))
+          (All-from_get_or IsInRange moves (Flip 0) (λ k within. in_range event (get_or moves k (Flip 0)) numbered (All-get_or (IsMoveAt event) moves k (Flip 0) within are))))
           (All-filter (is_later event) IsInRange plan is.in_range);
       rises = λ i j d before within. rises_from (compacted plan made event) all i j d before within (up_or i j before);
       every_first = every_from (compacted plan made event) all;

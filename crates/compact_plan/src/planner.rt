@@ -45,7 +45,12 @@ impl From<AllocError> for CompactFault {
 ///
 /// [`CompactFault::TooLong`] exactly where these are more than 262,144 lines, and memory was there to tell.
 #[tactic(auto, using(crate::proofs::PackLemmas::compacted_length))]
-pub fn compact(alloc: Global, plan: &Plan, made: &[Made], event: u64) -> Result<Vec<PlanLine>, CompactFault>
+pub fn compact(
+    alloc: Global,
+    plan: &Plan,
+    made: &[Made],
+    event: u64,
+) -> Result<Vec<PlanLine>, CompactFault>
     requires { ArePacked made.now }
     ensures lines { IfOk result (λ lines. lines.items ≡ compacted plan.now made.now event) }
     ensures few { IfOk result (λ lines. length lines.items ≤ 262144) }
