@@ -1,3 +1,5 @@
+//! The lines of the cases of each switch, kept in one list.
+
 ghost use Rattle.std.specs.Prelude.{◌≡◌, ◌<◌, ◌≤◌, [], ◌∷◌, ◌++◌, length, slice_get, slice_index, slice_range, unwrap_or, IfOk, OnOk};
 ghost use Rattle.case_lines.specs.Rows.{rows_from, AreStops};
 

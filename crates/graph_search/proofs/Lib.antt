@@ -1,2 +1,2 @@
 mod WithoutLemmas
-mod SearchLemmas
+pub mod SearchLemmas

@@ -1,46 +1,27 @@
 -- The search, a node at a time.
-use Rattle.std.proofs.Common.{◌≡◌, ◌∙◌, ℕ, ◌<◌, ◌≤◌, ◌+◌, ◌⊎◌, inl, inr, Bool, true, false, not, cond, List, [], ◌∷◌, ◌++◌, length, get_or, set, replicate, refl, ap, sym, arith, Some, slice_get, length-append}
-use Rattle.std.specs.List.{All, count_by, Contains}
+use Rattle.std.proofs.Common.{◌≡◌, ◌∙◌, ℕ, ◌<◌, ◌≤◌, ◌+◌, ◌⊎◌, inl, inr, Bool, true, false, List, [], ◌∷◌, ◌++◌, length, get_or, set, replicate, ap, sym, arith, Some, slice_get, length-append}
+use Rattle.std.specs.List.{All, Contains}
 use Rattle.std.proofs.lemmas.Bool.{false≢true}
 use Rattle.std.proofs.lemmas.List.{length-set, length-replicate}
-use Rattle.std.proofs.lemmas.List.Sums.{sum_by-set}
 use Rattle.std.proofs.lemmas.List.Elements.{Contains-push, Contains-push_cases, Contains-append_left}
-use Rattle.std.proofs.lemmas.Option.{slice_get_within, slice_get-get_or, get_or_from_slice_get}
+use Rattle.std.proofs.lemmas.Option.{slice_get_within, slice_get-get_or}
 use Rattle.list_laws.proofs.Places.{cases_below, get_front, get_pushed, get_written, get_kept, get_set, get_filled}
-use Rattle.list_laws.proofs.Contents.{all_contained, contains_none, contains_get, get_contained}
+use Rattle.list_laws.proofs.Contents.{all_contained, contains_get, get_contained}
 use Rattle.graph_search.specs.declared.search.Search.{Search}
 use Rattle.graph_search.specs.Edges.{targets_of, Edge, AreInside}
 use Rattle.graph_search.specs.Paths.{ReachedFrom, at_start, along, Marked, MarksReached}
 use Rattle.graph_search.specs.Searches.{Finds, had_mark, had_none, FindsAll, IsSearch}
+use Rattle.list_laws.proofs.Tests.{count_marked}
 
 -- ---- one mark more
 
-old-mark : (xs : List Bool) (j k : ℕ) → Marked (set xs j true) k → Marked xs k ⊎ (k ≡ j)
+pub old-mark : (xs : List Bool) (j k : ℕ) → Marked (set xs j true) k → Marked xs k ⊎ (k ≡ j)
 old-mark xs j k is = elim (get_set xs j k true true is) [ inl old ↦ inl old.1 | inr new ↦ inr new.0 ]
 
-count-set : (xs : List Bool) (k : ℕ) → slice_get xs k ≡ Some false → count_by not (set xs k true) + 1 ≡ count_by not xs
-count-set xs k is =
-    let f : Bool → ℕ = λ x. cond (not x) 1 0 in
-    let written = sum_by-set f xs k true false (slice_get_within xs k false is) in
-    let was : f (get_or xs k false) ≡ 1 = rw (get_or_from_slice_get xs k false false is) refl in
-    omega (arith, written, was)
-
-no-mark : (count node : ℕ) → ¬ Marked (replicate count false) node
+pub no-mark : (count node : ℕ) → ¬ Marked (replicate count false) node
 no-mark count node is = false≢true (sym (get_filled count false node true is))
 
 -- ---- finding some nodes
-
-pub finds-none : (search : Search) → FindsAll [] search search
-finds-none search = record {
-  whole = refl;
-  kept = λ node is. is;
-  marked = λ node there. absurd (contains_none node there);
-  source = λ node is. inl is;
-  front = λ place node is. is;
-  back = λ place node is. inl is;
-  listed = λ node is. inl is;
-  balance = refl;
-}
 
 pub finds-more : (nodes : List ℕ) (node : ℕ) (old between new : Search) → FindsAll nodes old between → Finds node between new
     → FindsAll (nodes ++ node ∷ []) old new
@@ -90,7 +71,7 @@ finds-more nodes node old between new finds (had_none is written pushed) = recor
     | inr e ↦ inr (rw (pushed, e) (Contains-push between.found.items node))
   ];
   balance =
-      let count = count-set between.marks.items node is in
+      let count = count_marked between.marks.items node is in
       let longer = length-append between.found.items (node ∷ []) in
       rw (written, pushed) (omega (arith, count, longer, finds.balance));
 }
@@ -102,7 +83,7 @@ pub starts-inside : (rows : List (List ℕ)) (starts : List ℕ) (marks : List B
 starts-inside rows starts marks inside whole =
     all_contained (λ (node : ℕ). node < length marks) starts (λ node there. rw whole (inside.starts_inside node there))
 
-edge-to : (rows : List (List ℕ)) (from to : ℕ) → Contains (targets_of rows from) to → Edge rows from to
+pub edge-to : (rows : List (List ℕ)) (from to : ℕ) → Contains (targets_of rows from) to → Edge rows from to
 edge-to rows from to there = let at = get_contained (targets_of rows from) to there in record { number = at.0; leads = at.1 }
 
 pub targets-inside : (rows : List (List ℕ)) (starts : List ℕ) (from : ℕ) (marks : List Bool) → AreInside rows starts → length marks ≡ length rows

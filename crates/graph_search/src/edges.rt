@@ -1,3 +1,5 @@
+//! Graphs by the edges of their nodes, and a graph without marked nodes.
+
 ghost use Rattle.std.specs.Prelude.{◌≡◌, ◌<◌, ℕ, List, [], length, Some, slice_get, slice_index_or, false};
 ghost use Rattle.graph_search.specs.Edges.{targets_of, without};
 

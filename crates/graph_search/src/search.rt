@@ -1,3 +1,5 @@
+//! Which nodes a search from a start reaches.
+
 ghost use Rattle.std.specs.Prelude.{◌≡◌, ◌<◌, [], length, replicate, true, false, IfOk, slice_get, Some};
 ghost use Rattle.std.specs.List.{All};
 ghost use Rattle.graph_search.specs.Edges.{targets_of, AreInside};

@@ -5,7 +5,7 @@ use Rattle.std.proofs.lemmas.List.{length-append, length-map, length-replicate}
 use Rattle.std.proofs.lemmas.List.Elements.{All-map, All-append, filter-append}
 use Rattle.std.proofs.lemmas.Option.{slice_get_within}
 use Rattle.list_laws.proofs.Places.{filter_map_back, filter_map_forth, get_front, get_map, get_past, get_some, map_back}
-use Rattle.list_laws.proofs.Contents.{all_at, all_back, all_from_at, all_front}
+use Rattle.list_laws.proofs.Contents.{all_at, all_back, all_from_at, all_front, all_under as of_map}
 use Rattle.sp_ids.specs.declared.ids.BlockId.{BlockId}
 use Rattle.ir_ast.specs.declared.types.Ty.{Ty}
 use Rattle.ir_ast.specs.declared.ops.Op.{Op}
@@ -24,7 +24,6 @@ use Rattle.ir_cfg.specs.Graphs.{graph_of}
 use Rattle.graph_search.specs.Paths.{Marked}
 use Rattle.ir_cfg.specs.Marks.{MarksReached}
 use Rattle.ir_cfg.specs.Unreached.{Kept, kept_of, kept_by, result_count, result_marks, value_marks, operand_kept, label_kept, has_mark, inst_kept, block_kept, function_kept}
-use Rattle.ir_cfg.proofs.KeptLemmas.{of_map}
 use Rattle.ir_cfg.proofs.KeepsPlaces.{get_cases, kept_all, kept_back, kept_distinct, kept_get, kept_map, map_through, marks_before, number_of_marked}
 use Rattle.ir_cfg.proofs.KeepsLines.{IsKept, all_lines, block_forth, inst_left, inst_new, line_at, operands_left, two_steps}
 use Rattle.ir_cfg.proofs.KeepsValues.{definition_kept, named, new_definitions, new_names}

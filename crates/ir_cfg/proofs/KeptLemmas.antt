@@ -1,11 +1,11 @@
 -- What is kept of lists and of blocks.
-use Rattle.std.proofs.Common.{◌≡◌, ℕ, zero, suc, ◌<◌, ◌≤◌, ◌+◌, Bool, true, false, not, if◌then◌else◌, List, [], ◌∷◌, ◌++◌, length, get_or, take, map, refl, ap, sym, arith, add-one, append-nil, append_assoc, subst, replicate, is_some, ◌∙◌}
+use Rattle.std.proofs.Common.{◌≡◌, ℕ, zero, suc, ◌<◌, ◌≤◌, ◌+◌, Bool, true, false, not, if◌then◌else◌, List, [], ◌∷◌, ◌++◌, length, get_or, take, map, refl, ap, sym, arith, add-one, append-nil, append_assoc, replicate, is_some, ◌∙◌}
 use Rattle.std.specs.List.{All, list_all}
-use Rattle.std.proofs.lemmas.List.{map-append, length-append, length-replicate, length-map, get_or-map}
+use Rattle.std.proofs.lemmas.List.{map-append, length-append, length-replicate, length-map}
 use Rattle.std.proofs.lemmas.List.Sums.{length-filter, count_by-le-length}
 use Rattle.ir_ast.specs.declared.funcs.Arg.{Arg}
 use Rattle.ir_ast.specs.declared.types.Ty.{Ty}
-use Rattle.ir_ast.specs.Funcs.{Function, LinedFunction, instructions_of, content_of, lines_of, IsSmall}
+use Rattle.ir_ast.specs.Funcs.{Function, instructions_of, IsSmall}
 use Rattle.ir_ast.specs.Modules.{ModuleContent}
 use Rattle.ir_ast.specs.Formed.{IsFormed}
 use Rattle.ir_ast.specs.declared.modules.Form.TheVariants.{Source}
@@ -13,8 +13,9 @@ use Rattle.ir_cfg.specs.SourceModules.{IsSourceModule}
 use Rattle.ir_ast.specs.Insts.{Instruction}
 use Rattle.ir_ast.specs.Ops.{is_terminator}
 use Rattle.ir_ast.specs.Blocks.{BasicBlock, EndsAtTerminator}
-use Rattle.ir_cfg.specs.Unreached.{Kept, kept_of, inst_kept, block_kept, result_count, result_marks, value_marks, kept_by, function_kept, zeros_of}
+use Rattle.ir_cfg.specs.Unreached.{Kept, kept_of, inst_kept, block_kept, result_count, result_marks, value_marks, kept_by, function_kept}
 use Rattle.ir_cfg.proofs.TypedLemmas.{formed_module}
+use Rattle.list_laws.proofs.Contents.{all_under}
 
 kept_next : {A : Type 0} (marks : List Bool) (xs : List A) (place : ℕ) (x : A) → place < length xs
     → kept_of marks (take (suc place) xs) ≡ kept_of marks (take place xs) ++ (if get_or marks place false then get_or xs place x ∷ [] else [])
@@ -160,15 +161,10 @@ small_kept args kept marks blocks small = record {
   few_instructions = omega (arith, small.few_instructions, few_instructions kept marks blocks);
 }
 
-pub of_map : {A B : Type 0} (f : A → B) (P : B → Type 0) (xs : List A) → All P (map f xs) → All (λ x. P (f x)) xs
-of_map f P xs all = λ k d below.
-    let within : k < length (map f xs) = omega (arith, below, length-map xs f) in
-    subst P (get_or-map f xs k d (f d) below) (all k (f d) within)
-
 -- the functions of a source module are formed
 pub formed_funcs : {A : Type 0} (f : A → Function) (funcs : List A) (content : ModuleContent) → map f funcs ≡ content.funcs
     → IsSourceModule content → All (λ func. IsFormed (f func)) funcs
-formed_funcs f funcs content same source = of_map f IsFormed funcs (rw same (formed_module Source content source.typed).formed)
+formed_funcs f funcs content same source = all_under f IsFormed funcs (rw same (formed_module Source content source.typed).formed)
 
 pub blocks_left : (func : Function) (marks : List Bool) (kept : Kept) (old new : List BasicBlock) → kept ≡ kept_by marks func
     → old ≡ func.blocks → new ≡ map (block_kept kept) (kept_of kept.marks old) → new ≡ (function_kept marks func).blocks
@@ -183,12 +179,3 @@ function_left func marks name answer args blocks same_name same_answer same_args
 pub numbers_left : (func : Function) (marks values : List Bool) (count : ℕ) (blocks : List BasicBlock) → count ≡ length func.args
     → blocks ≡ func.blocks → values ≡ replicate count true ++ result_marks marks blocks → values ≡ value_marks marks func
 numbers_left func marks values count blocks same_count same_blocks is = rw (is, same_count, same_blocks) refl
-
--- one function more whose lines are all 0
-pub lines_push : (funcs : List LinedFunction) (func : LinedFunction) → map lines_of funcs ≡ map zeros_of (map content_of funcs)
-    → func.lines ≡ zeros_of func.content → map lines_of (funcs ++ func ∷ []) ≡ map zeros_of (map content_of (funcs ++ func ∷ []))
-lines_push funcs func before one =
-    map-append lines_of funcs (func ∷ [])
-    ∙ ap (λ (lines : List (List ℕ)). lines ++ func.lines ∷ []) before
-    ∙ ap (λ (lines : List ℕ). map zeros_of (map content_of funcs) ++ lines ∷ []) one
-    ∙ sym (ap (map zeros_of) (map-append content_of funcs (func ∷ [])) ∙ map-append zeros_of (map content_of funcs) (func.content ∷ []))

@@ -21,3 +21,4 @@ pub mod KeepsDerived
 pub mod KeepsSource
 pub mod KeepsAll
 pub mod FollowLemmas
+pub mod PredLaws

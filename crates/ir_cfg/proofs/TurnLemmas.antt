@@ -15,15 +15,6 @@ use Rattle.ir_cfg.specs.declared.turned.Filling.{Filling}
 use Rattle.ir_cfg.proofs.RowLemmas.{row_at, length-rows_from, stops_ordered, sums_are_stops, range_outside, range_first}
 use Rattle.ir_cfg.proofs.CountLemmas.{count_here, count_there, sum_of_counts, labels_inside, labels_more}
 
-pub enters_none : (from : BlockId) (filling : Filling) → Enters from [] filling filling
-enters_none from filling = record {
-  stops = refl;
-  whole = refl;
-  size = refl;
-  moved = λ block below. omega arith;
-  entered = λ block below. refl;
-}
-
 -- what a row has after some labels lies between its start and its stop
 pub record Between (old new : Filling) (block : ℕ) : Type 0 where
   pub low : start_of old block ≤ get_or new.cursors.items block 0

@@ -1,3 +1,5 @@
+//! The graph of a function's blocks: successors, predecessors, what the entry reaches.
+
 ghost use Rattle.std.specs.Prelude.{◌≡◌, ◌<◌, ◌↔◌, length, IfOk, IsTrue, nat_le};
 ghost use Rattle.std.specs.List.{list_any};
 ghost use Rattle.ir_ast.specs.Formed.{IsFormed};

@@ -1,3 +1,5 @@
+//! The edges of a function's blocks, from their terminators.
+
 ghost use Rattle.std.specs.Prelude.{◌≡◌, ◌<◌, ◌^◌, length, IfOk};
 ghost use Rattle.ir_ast.specs.Edges.{targets};
 ghost use Rattle.ir_cfg.specs.Graphs.{graph_of};

@@ -1,3 +1,5 @@
+//! Marks of the blocks that the entry reaches.
+
 ghost use Rattle.std.specs.Prelude.{◌≡◌, ◌<◌, ◌⊎◌, ℕ, true, length, IfOk};
 ghost use Rattle.graph_search.specs.Paths.{Marked};
 ghost use Rattle.ir_cfg.specs.Followed.{AreReached, MarksMore};

@@ -1,3 +1,5 @@
+//! Blocks, values and operands by their numbers in a function that loses blocks.
+
 ghost use Rattle.std.specs.Prelude.{◌≡◌, ◌^◌, ◌<◌, false, length, map, filter, slice_index, slice_index_or, IfOk};
 ghost use Rattle.ir_ast.specs.Blocks.{EndsAtTerminator};
 ghost use Rattle.ir_cfg.specs.Unreached.{kept_of, new_numbers, operand_kept, label_kept, has_mark, operands_kept, labels_kept, inst_kept, block_kept};

@@ -1,3 +1,5 @@
+//! One row of blocks for each block, kept in one list.
+
 ghost use Rattle.std.specs.Prelude.{◌≡◌, ◌<◌, ◌≤◌, [], ◌∷◌, ◌++◌, length, slice_index, slice_range, IfOk};
 ghost use Rattle.ir_cfg.specs.Graphs.{succs_of, labels_of, numbers_of};
 ghost use Rattle.ir_cfg.specs.Rows.{rows_from, AreStops};

@@ -1,3 +1,5 @@
+//! A graph turned round: predecessors out of successors.
+
 ghost use Rattle.std.specs.Prelude.{◌≡◌, ◌<◌, ◌^◌, ◌+◌, ◌-◌, ◌≤◌, length, sum, IfOk, slice_index, slice_set};
 ghost use Rattle.std.specs.List.{All};
 ghost use Rattle.ir_cfg.specs.Graphs.{succs_of};

@@ -1,3 +1,5 @@
+//! A module without the blocks that no entry reaches.
+
 ghost use Rattle.std.specs.Prelude.{◌≡◌, ◌^◌, ◌<◌, [], ◌∷◌, ◌++◌, true, false, if◌then◌else◌, length, map, replicate, slice_index_or, IfOk};
 ghost use Rattle.ir_ast.specs.Funcs.{content_of, lines_of};
 ghost use Rattle.ir_ast.specs.Formed.{IsFormed};

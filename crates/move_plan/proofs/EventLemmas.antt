@@ -1,5 +1,5 @@
 -- What the lines of an event say, of the event's lines alone.
-use Rattle.std.proofs.Common.{◌≡◌, refl, ap, sym, ◌∙◌, ℕ, suc, Bool, true, false, List, [], ◌∷◌, cond, eqb, arith, None, Some, Option, inl, inr}
+use Rattle.std.proofs.Common.{◌≡◌, refl, ap, sym, ◌∙◌, ℕ, suc, Bool, false, List, [], ◌∷◌, cond, eqb, arith, None, Some, Option, inl, inr}
 use Rattle.std.specs.Prelude.{filter, map, slice_get, ◌&&◌, ◌||◌}
 use Rattle.std.specs.List.{filter_map, list_any}
 use Rattle.std.proofs.lemmas.Bool.{and_right, cases_Bool}
@@ -8,6 +8,7 @@ use Rattle.move_plan.specs.declared.plan_lines.PlanLine.{PlanLine}
 use Rattle.move_plan.specs.declared.plan_lines.PlanLine.TheVariants.{Every, Move, Flip, Go}
 use Rattle.move_plan.specs.Plans.{event_of, flips, flips_at, go, task_at}
 use Rattle.move_plan.specs.Tables.{flips_each, is_flip, task_of}
+use Rattle.list_laws.proofs.Booleans.{and_true, cond_same}
 
 -- what is kept of the elements that pass
 pub filter_map-filter : {X Y : Type 0} (f g : X → Option Y) (p : X → Bool) → ((x : X) → f x ≡ cond (p x) (g x) None) → (xs : List X)
@@ -37,10 +38,6 @@ filter-filter p q (x ∷ xs) = elim (cases_Bool (q x)) [
   | inr isnt ↦ rw isnt (filter-filter p q xs)
 ]
 
-cond_same : {X : Type 0} (b : Bool) (x : X) → cond b x x ≡ x
-cond_same true x = refl
-cond_same false x = refl
-
 -- ---- `go`
 
 task_at-event : (k : ℕ) (line : PlanLine) → task_at k line ≡ cond (eqb (event_of line) k) (task_of line) None
@@ -53,10 +50,6 @@ pub go-event : (plan : List PlanLine) (k : ℕ) → go plan k ≡ slice_get (fil
 go-event plan k = ap (λ xs. slice_get xs 0) (filter_map-filter (task_at k) task_of (λ line. eqb (event_of line) k) (task_at-event k) plan)
 
 -- ---- flips
-
-and_true : (b : Bool) → (b && true) ≡ b
-and_true true = refl
-and_true false = refl
 
 -- no line is `every`
 abbrev NoEvery : List PlanLine → Type 0

@@ -21,7 +21,8 @@ use Rattle.move_plan.specs.PlanFaults.{at_event, HasFault, HasNoFault, IsFaultOf
 use Rattle.move_plan.specs.Steps.{is_empty, is_late, is_second_go, last_event, IsLate, IsOverLimit, IsSecondGo, MayFollow, StopsAt, TakesLine}
 use Rattle.move_plan.proofs.DecodeLemmas.{decoded-complete}
 use Rattle.move_plan.proofs.PlanLemmas.{event-le-last, go-contains, go-from, last-from, plan_none, plan_push, some-from}
-use Rattle.move_plan.proofs.TextLemmas.{all_numbered, get_from_take, get_take, next_numbered, none_numbered, reading_at, same_line, says_at, says_from, says_none, says_push, take_line_more}
+use Rattle.move_plan.proofs.TextLemmas.{all_numbered, get_take, next_numbered, none_numbered, reading_at, same_line, says_at, says_from, says_none, says_push, take_line_more}
+use Rattle.list_laws.proofs.Places.{take_back as get_from_take}
 
 -- ---- a line has at most one reading
 

@@ -11,4 +11,4 @@ pub mod PlanLemmas
 pub mod SortedLemmas
 pub mod TextLemmas
 pub mod WordLemmas
-mod Examples
+mod Samples

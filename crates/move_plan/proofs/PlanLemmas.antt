@@ -1,6 +1,6 @@
 -- Plans that grow by a line.
 use Rattle.std.proofs.Common.{◌≡◌, refl, ap, sym, subst, ◌∙◌, ℕ, zero, suc, ◌-◌, ◌<◌, ◌≤◌, true, false, List, [], ◌∷◌, ◌++◌, length, get_or, arith, eqb, None, Some, Option, inl, inr}
-use Rattle.std.specs.Prelude.{slice_get, ◌⊎◌}
+use Rattle.std.specs.Prelude.{slice_get}
 use Rattle.std.specs.List.{cons_option, filter_map}
 use Rattle.std.specs.Option.{is_some, option_map_or}
 use Rattle.std.specs.List.Sorted.{IsNonDecreasingBy}
@@ -15,17 +15,9 @@ use Rattle.move_plan.specs.declared.plan_lines.PlanLine.TheVariants.{Every, Move
 use Rattle.move_plan.specs.PlanLines.{IsInRange}
 use Rattle.move_plan.specs.Plans.{event_of, go, task_at, IsPlan}
 use Rattle.move_plan.specs.Steps.{is_empty, is_late, is_second_go, last_event, MayFollow}
+use Rattle.list_laws.proofs.Places.{pushed_cases}
 
 -- ---- places of a list with one more element
-
-pub get_push : {X : Type 0} (xs : List X) (y : X) (k : ℕ) (x : X) → slice_get (xs ++ y ∷ []) k ≡ Some x → (slice_get xs k ≡ Some x) ⊎ ((k ≡ length xs) × (y ≡ x))
-get_push [] y zero x at = inr (refl, same_Some y x at)
-get_push [] y (suc k) x at = absurd (none-some x at)
-get_push (z ∷ zs) y zero x at = inl at
-get_push (z ∷ zs) y (suc k) x at = elim (get_push zs y k x at) [
-  | inl among ↦ inl among
-  | inr last ↦ inr (omega (arith, last.0), last.1)
-]
 
 -- ---- `go` lines
 
@@ -78,10 +70,6 @@ pub some-from : (plan : List PlanLine) → is_empty plan ≡ false → (place : 
 some-from [] some = absurd (cc)
 some-from (line ∷ rest) some = (0, line, refl)
 
-pub empty-from : (plan : List PlanLine) → is_empty plan ≡ true → plan ≡ []
-empty-from [] e = refl
-empty-from (line ∷ rest) e = absurd (cc)
-
 -- ---- one more line
 
 rises_push : (plan : List PlanLine) (what : PlanLine) → IsNonDecreasingBy event_of plan → (0 < length plan → last_event plan ≤ event_of what) → IsNonDecreasingBy event_of (plan ++ what ∷ [])
@@ -104,16 +92,16 @@ pub plan_push : (plan : List PlanLine) (what : PlanLine) → IsPlan plan → IsI
 plan_push plan what is fits follows room = record {
   in_range = All-push IsInRange plan what is.in_range fits;
   rises = rises_push plan what is.rises (in_order plan what follows.0);
-  every_first = λ place period at. elim (get_push plan what place (Every period) at) [
+  every_first = λ place period at. elim (pushed_cases plan what place (Every period) at) [
     | inl among ↦ is.every_first place period among
     | inr last ↦ last.0 ∙ every_alone plan period (subst (λ (one : PlanLine). is_late plan one ≡ false) last.1 follows.0)
   ];
-  one_go = λ place other event task another at also. elim (get_push plan what place (Go event task) at) [
-    | inl among ↦ elim (get_push plan what other (Go event another) also) [
+  one_go = λ place other event task another at also. elim (pushed_cases plan what place (Go event task) at) [
+    | inl among ↦ elim (pushed_cases plan what other (Go event another) also) [
       | inl both ↦ is.one_go place other event task another among both
       | inr last ↦ absurd (second place event task another among last.1)
     ]
-    | inr last ↦ elim (get_push plan what other (Go event another) also) [
+    | inr last ↦ elim (pushed_cases plan what other (Go event another) also) [
       | inl among ↦ absurd (second other event another task among last.1)
       | inr both ↦ last.0 ∙ sym both.0
     ]

@@ -10,6 +10,7 @@ use Rattle.std.proofs.lemmas.List.Elements.{filter_map-append}
 use Rattle.std.proofs.lemmas.Option.{none-some, same_Some, slice_get-get_or, slice_get_within, get_or_from_slice_get}
 use Rattle.sp_text.specs.Lines.{NumberedLine, lines_of, numbered}
 use Rattle.move_plan.specs.Texts.{HasLine, LinesSay}
+use Rattle.list_laws.proofs.Zips.{zip_pushed}
 
 -- ---- numbered lines
 
@@ -98,17 +99,11 @@ says_from reads ls all place x says at =
 pub says_none : {X : Type 0} (reads : List ℕ → Option X → Type 0) → LinesSay reads [] []
 says_none reads = record { readings = []; each = tt; given = refl }
 
-zip_push : {A B : Type 0} (R : A → B → Type 0) (xs : List A) (ys : List B) (x : A) (y : B) → AllZip R xs ys → R x y → AllZip R (xs ++ x ∷ []) (ys ++ y ∷ [])
-zip_push R [] [] x y all one = (one, tt)
-zip_push R [] (b ∷ ys) x y all one = absurd all
-zip_push R (a ∷ xs) [] x y all one = absurd all
-zip_push R (a ∷ xs) (b ∷ ys) x y all one = (all.0, zip_push R xs ys x y all.1 one)
-
 pub says_push : {X : Type 0} (reads : List ℕ → Option X → Type 0) (ls : List (List ℕ)) (all : List X) (line : List ℕ) (r : Option X)
     → LinesSay reads ls all → reads line r → LinesSay reads (ls ++ line ∷ []) (all ++ option_to_list r)
 says_push {X} reads ls all line r says reading = record {
   readings = says.readings ++ r ∷ [];
-  each = zip_push reads ls says.readings line r says.each reading;
+  each = zip_pushed reads ls says.readings line r says.each reading;
   given = ap (λ xs. xs ++ option_to_list r) says.given ∙ ap (λ ys. filter_map (λ x. x) says.readings ++ ys) (by r) ∙ sym (filter_map-append (λ x. x) says.readings (r ∷ []));
 }
   where
@@ -141,9 +136,3 @@ get_take zero xs i x below at = absurd (omega arith)
 get_take (suc n) [] i x below at = at
 get_take (suc n) (y ∷ ys) zero x below at = at
 get_take (suc n) (y ∷ ys) (suc i) x below at = get_take n ys i x (omega arith) at
-
-pub get_from_take : {X : Type 0} (n : ℕ) (xs : List X) (i : ℕ) (x : X) → slice_get (take n xs) i ≡ Some x → (i < n) × (slice_get xs i ≡ Some x)
-get_from_take zero xs i x at = absurd (none-some x at)
-get_from_take (suc n) [] i x at = absurd (none-some x at)
-get_from_take (suc n) (y ∷ ys) zero x at = (omega arith, at)
-get_from_take (suc n) (y ∷ ys) (suc i) x at = (let more = get_from_take n ys i x at in (omega (arith, more.0), more.1))

@@ -1,3 +1,5 @@
+//! What is wrong with a plan or an input, and its message.
+
 use std::alloc::{AllocError, AllocFailed};
 use std::error::Error;
 use std::fmt;

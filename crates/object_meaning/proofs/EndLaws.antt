@@ -5,7 +5,6 @@ use Rattle.std.specs.Prelude.{ℤ, pos, nat_lt, int_lt, if◌then◌else◌, sli
 use Rattle.std.specs.Int.{w64, cast_unsigned}
 use Rattle.std.specs.List.{sum_by}
 use Rattle.std.specs.Option.{option_map_or}
-use Rattle.std.proofs.lemmas.Bool.Decides.{nat_tests}
 use Rattle.std.proofs.lemmas.List.{length-append, length-drop, length-set}
 use Rattle.sp_ids.specs.Numbers.{signed}
 use Rattle.sp_ids.specs.declared.ends.End.{End}
@@ -34,6 +33,7 @@ use Rattle.object_meaning.specs.States.{Frame, State, Setting}
 use Rattle.object_meaning.specs.Steps.{accesses, acts, loading, returned, settled, step, steps_at, storing}
 use Rattle.object_meaning.specs.Tasks.{handed_over, polled, started, switched, switched_to, task_ended, with_event}
 use Rattle.object_meaning.proofs.StepLaws.{step_at_end}
+use Rattle.std.proofs.lemmas.Bool.{ltb-true}
 
 -- a run on objects returns, traps or runs out of steps
 abbrev pub IsFinal : End → Type 0
@@ -64,19 +64,19 @@ waiting_lines (task ∷ tasks) = top_lines task + waiting_lines tasks
 abbrev lines_left : State → ℕ
 lines_left state = length state.running.rest + waiting_lines state.tasks
 
-set_within : (tasks : List (List Frame)) (task : ℕ) (now : List Frame) → waiting_lines (slice_set tasks task now) ≤ top_lines now + waiting_lines tasks
+pub set_within : (tasks : List (List Frame)) (task : ℕ) (now : List Frame) → waiting_lines (slice_set tasks task now) ≤ top_lines now + waiting_lines tasks
 set_within [] task now = omega arith
 set_within (first ∷ tasks) zero now = omega arith
 set_within (first ∷ tasks) (suc task) now = let rest = set_within tasks task now in omega arith
 
-taken_within : (tasks : List (List Frame)) (to : ℕ) (found : List Frame) → slice_get tasks to ≡ Some found
+pub taken_within : (tasks : List (List Frame)) (to : ℕ) (found : List Frame) → slice_get tasks to ≡ Some found
     → top_lines found + waiting_lines (slice_set tasks to []) ≤ waiting_lines tasks
 taken_within [] to found is = cc
 taken_within (first ∷ tasks) zero found is = let same : first ≡ found = cc in let lines = ap top_lines same in omega arith
 taken_within (first ∷ tasks) (suc to) found is = let rest = taken_within tasks to found is in omega arith
 
 -- the running task waits, and another one runs
-changed_within : (tasks : List (List Frame)) (task to : ℕ) (now found : List Frame) → slice_get tasks to ≡ Some found
+pub changed_within : (tasks : List (List Frame)) (task to : ℕ) (now found : List Frame) → slice_get tasks to ≡ Some found
     → top_lines found + waiting_lines (slice_set (slice_set tasks task now) to []) ≤ top_lines now + waiting_lines tasks
 changed_within [] task to now found is = cc
 changed_within (first ∷ tasks) zero zero now found is = let same : first ≡ found = cc in let lines = ap top_lines same in omega arith
@@ -110,9 +110,6 @@ fares_counted bound state (goes_on next) under is = counted under is
 fares_counted bound state (prints word next) under is = counted under is
 fares_counted bound state (ends end last) under final = final
 
-under_bound : (steps bound : ℕ) → nat_lt steps bound ≡ true → steps < bound
-under_bound steps bound is = grind (arith, nat_tests)
-
 -- a state behind the line at which another stands
 record IsBehind (state next : State) : Type 0 where
   steps : next.steps ≡ state.steps
@@ -126,7 +123,7 @@ leads_behind bound state next behind =
 behind_passed : (state : State) (line : Line) (rest : List Line) (result : Datum) → length rest < length state.running.rest → IsBehind state (passed state line rest result)
 behind_passed state line rest result shorter = record { steps = refl; tasks = refl; rest = shorter }
 
-dropped_less : (count : ℕ) (rest : List Line) (all : ℕ) → length rest < all → length (drop count rest) < all
+pub dropped_less : (count : ℕ) (rest : List Line) (all : ℕ) → length rest < all → length (drop count rest) < all
 dropped_less count rest all shorter = let e = length-drop count rest in omega arith
 
 behind_grouped : (state : State) (entries : List Operand) (rest : List Line) (answer : Datum) → length rest < length state.running.rest
@@ -141,7 +138,7 @@ module _ (setting : Setting) (state : State) where
     where
       by : (b : Bool) → nat_lt state.steps setting.bound ≡ b
           → Fares setting.bound state (if b then next (record state { steps = state.steps + 1 }) else ends ended.OutOfSteps state)
-      by true is = fares_counted setting.bound state (next (record state { steps = state.steps + 1 })) (under_bound state.steps setting.bound is) counts
+      by true is = fares_counted setting.bound state (next (record state { steps = state.steps + 1 })) (ltb-true state.steps setting.bound is) counts
       by false is = tt
 
   counts_entering : (func : ℕ) (arguments : List Datum) → Counts state.steps (entering setting func arguments state)
@@ -181,7 +178,7 @@ module _ (setting : Setting) (state : State) where
       by true is =
           let set = length-set state.tasks state.task (state.running ∷ state.below) in
           let more = length-append (slice_set state.tasks state.task (state.running ∷ state.below)) ([] ∷ []) in
-          tasked refl (under_bound (length state.tasks) 64 is) (more ∙ ap (λ n. n + 1) set)
+          tasked refl (ltb-true (length state.tasks) 64 is) (more ∙ ap (λ n. n + 1) set)
       by false is = tt
 
 -- ---- a poll
@@ -344,7 +341,7 @@ fares setting state = fares_at setting state state.running.rest refl
 abbrev Halts : Setting → State → Type 0
 Halts setting state = (lines : List (List ℕ)) → Halted setting (record { state = state; lines = lines })
 
-ends_before : {E A : Type 0} (step : A → Next E A) (start next : A) (end : E) (last : A) → step start ≡ Go next → Ends step next end last → Ends step start end last
+pub ends_before : {E A : Type 0} (step : A → Next E A) (start next : A) (end : E) (last : A) → step start ≡ Go next → Ends step next end last → Ends step start end last
 ends_before step start next end last is rest = record { within = suc rest.within; by = ap (goes step rest.within) is ∙ rest.by }
 
 halted_before : (setting : Setting) (start next : Progress State) → proceeds setting start ≡ Go next → Halted setting next → Halted setting start

@@ -1,3 +1,4 @@
+pub mod LineLaws
 pub mod ListLemmas
 pub mod NumberLemmas
 pub mod RunLaws

@@ -76,7 +76,7 @@ same_lines : (end other : End) (state : State) (lines : List (List ℕ)) (last :
     → Over end (record { state = state; lines = lines }) ≡ Over other last → last.lines ≡ lines
 same_lines end other state lines last is = sym (ap (λ (p : Progress State). p.lines) (same_over end other (record { state = state; lines = lines }) last is).last)
 
-more_lines : (lines : List (List ℕ)) (line : List ℕ) (last : List (List ℕ)) → PrintsMore (line ∷ lines) last → PrintsMore lines last
+pub more_lines : (lines : List (List ℕ)) (line : List ℕ) (last : List (List ℕ)) → PrintsMore (line ∷ lines) last → PrintsMore lines last
 more_lines lines line last printed = record { more = line ++ printed.more; text = printed.text ∙ append_assoc (text_of lines) line printed.more }
 
 prints_more : (setting : Setting) (count : ℕ) (lines : List (List ℕ)) (effect : Effect State) (end : End) (last : Progress State)
@@ -107,7 +107,7 @@ printed_first setting start now last end reached finished =
 
 -- ---- the text
 
-concat-reverse : (lines : List (List ℕ)) → concat (reverse lines) ≡ text_of lines
+pub concat-reverse : (lines : List (List ℕ)) → concat (reverse lines) ≡ text_of lines
 concat-reverse [] = refl
 concat-reverse (line ∷ lines) =
     ap concat (reverse-append (line ∷ []) lines) ∙ (concat-append (reverse lines) (line ∷ []) ∙ (ap (λ text. text ++ (line ++ [])) (concat-reverse lines) ∙ ap (λ more. text_of lines ++ more) (append-nil line)))

@@ -1,10 +1,6 @@
 -- Modules that are run by the definitions, to see that these say what was meant.
-use Rattle.std.proofs.Common.{ℕ, List, [], ◌∷◌, Option, Some, None, cond, codes}
-use Rattle.std.specs.Prelude.{◌==◌, if◌then◌else◌}
-use Rattle.sp_ids.specs.declared.ids.ValueId.{ValueId}
-use Rattle.sp_ids.specs.declared.ids.FuncId.{FuncId}
+use Rattle.std.proofs.Common.{ℕ, List, [], ◌∷◌, Option, Some, None, codes}
 use Rattle.ir_ast.specs.declared.cells.Cell.TheVariants as cells
-use Rattle.ir_ast.specs.declared.ops.Callee.{Callee}
 use Rattle.ir_ast.specs.declared.ops.Callee.TheVariants as callees
 use Rattle.ir_ast.specs.declared.ops.Elem.TheVariants as elems
 use Rattle.ir_ast.specs.declared.ops.Op.{Op}

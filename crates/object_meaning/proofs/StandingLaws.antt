@@ -6,7 +6,6 @@ use Rattle.std.specs.List.{sum_by}
 use Rattle.std.specs.Option.{option_map_or}
 use Rattle.std.proofs.lemmas.List.{drop-drop}
 use Rattle.sp_ids.specs.Numbers.{signed}
-use Rattle.sp_ids.specs.declared.ends.End.{End}
 use Rattle.sp_ids.specs.declared.ends.End.TheVariants as ended
 use Rattle.sp_ids.specs.declared.ends.Trap.{Trap}
 use Rattle.sp_ids.specs.declared.ends.Trap.TheVariants as traps
@@ -25,15 +24,14 @@ use Rattle.object_meaning.specs.Frames.{answered_at, answered_by, entered, group
 use Rattle.object_meaning.specs.Jumps.{arrived, branch_taken, case_taken, jumped, label_at, phi_count}
 use Rattle.object_meaning.specs.Lines.{Line}
 use Rattle.object_meaning.specs.Numbers.{width_of}
-use Rattle.object_meaning.specs.Outcomes.{opening, proceeds}
 use Rattle.object_meaning.specs.Registers.{nothing, number_in, operand, pointer_in, value}
-use Rattle.object_meaning.specs.Runs.{Go, Reaches}
+use Rattle.object_meaning.specs.Runs.{Go}
 use Rattle.object_meaning.specs.States.{Frame, State, Setting}
 use Rattle.object_meaning.specs.Steps.{accesses, acts, loading, returned, settled, step, steps_at, storing}
 use Rattle.object_meaning.specs.Tasks.{handed_over, polled, started, switched, switched_to, task_ended, with_event}
-use Rattle.object_meaning.proofs.ListLemmas.{drop_front}
 use Rattle.object_meaning.proofs.TaskLists.{Each, EachTask, each_get, each_push, each_set}
-use Rattle.object_meaning.proofs.RunLaws.{gone, not_over, reaches_keep}
+use Rattle.object_meaning.proofs.RunLaws.{gone, not_over}
+use Rattle.std.proofs.Math.Seq.{drop-append_seam as drop_front}
 
 -- a frame stands behind so many lines of its block. The lines before the first block stand before those of each block, so
 -- that a new frame stands in its block too
@@ -286,11 +284,3 @@ after_effect setting lines (goes_on state) now all is =
 after_effect setting lines (prints word state) now all is =
     subst (λ (p : Progress State). AllStand setting p.state) (gone (record { state = state; lines = printed_line word ∷ lines }) now is) all
 after_effect setting lines (ends end state) now all is = absurd (not_over end (record { state = state; lines = lines }) now is)
-
--- in each state that a run comes to each frame stands in its block
-pub all_stand : (setting : Setting) (input : List ℤ) (now : Progress State) → Reaches {E = End} (proceeds setting) (opening setting input) now → AllStand setting now.state
-unfolding proceeds
-all_stand setting input now reached =
-    reaches_keep (proceeds setting) (λ (p : Progress State). AllStand setting p.state) (opening setting input) now
-    (record { running = record { behind = 0; is = refl }; below = tt; tasks = (tt, tt) })
-    (λ one other is all. after_effect setting one.lines (step setting one.state) other (after_step setting one.state all) is) reached

@@ -1,32 +1,20 @@
 -- The search, a node at a time.
-use Rattle.std.proofs.Common.{◌≡◌, ◌∙◌, ℕ, zero, suc, ◌<◌, ◌≤◌, ◌+◌, ◌⊎◌, inl, inr, Bool, true, false, not, cond, List, [], ◌∷◌, ◌++◌, length, get_or, set, replicate, drop, refl, ap, sym, arith, Some, slice_get, length-append}
-use Rattle.std.specs.List.{All, count_by, Contains}
+use Rattle.std.proofs.Common.{◌≡◌, ◌∙◌, ℕ, zero, suc, ◌<◌, ◌≤◌, ◌+◌, ◌⊎◌, inl, inr, Bool, true, false, List, [], ◌∷◌, ◌++◌, length, get_or, set, replicate, drop, refl, ap, sym, arith, Some, slice_get, length-append}
+use Rattle.std.specs.List.{All, Contains}
 use Rattle.std.proofs.lemmas.Bool.{false≢true}
 use Rattle.std.proofs.lemmas.List.{length-set, length-replicate, drop_all}
-use Rattle.std.proofs.lemmas.List.Sums.{sum_by-set}
 use Rattle.std.proofs.lemmas.List.Elements.{Contains-push, Contains-push_cases, Contains-append_left}
-use Rattle.std.proofs.lemmas.Option.{slice_get_within, slice_get-get_or, get_or_from_slice_get, none-some}
-use Rattle.list_laws.proofs.Places.{cases_below, get_front, get_pushed, get_written, get_kept, get_set, get_filled, drop_at}
+use Rattle.std.proofs.lemmas.Option.{slice_get_within, slice_get-get_or, none-some}
+use Rattle.list_laws.proofs.Places.{cases_below, get_front, get_pushed, get_written, get_kept, get_set, drop_at}
 use Rattle.list_laws.proofs.Contents.{all_contained, contains_none, contains_get, get_contained, contains_cons}
-use Rattle.graph_search.specs.Edges.{targets_of, Edge, AreInside}
+use Rattle.graph_search.specs.Edges.{targets_of, Edge}
 use Rattle.graph_search.specs.Paths.{ReachedFrom, at_start, along, Marked}
 use Rattle.shared_search.specs.Lists.{ListsReached}
 use Rattle.shared_search.specs.Searches.{Finds, had_mark, had_none, AreListed, FindsAll, IsSearch}
+use Rattle.list_laws.proofs.Tests.{count_marked}
+use Rattle.graph_search.proofs.SearchLemmas.{old-mark, no-mark, edge-to}
 
 -- ---- one mark more
-
-old_mark : (xs : List Bool) (j k : ℕ) → Marked (set xs j true) k → Marked xs k ⊎ (k ≡ j)
-old_mark xs j k is = elim (get_set xs j k true true is) [ inl old ↦ inl old.1 | inr new ↦ inr new.0 ]
-
-count_set : (xs : List Bool) (k : ℕ) → slice_get xs k ≡ Some false → count_by not (set xs k true) + 1 ≡ count_by not xs
-count_set xs k is =
-    let f : Bool → ℕ = λ x. cond (not x) 1 0 in
-    let written = sum_by-set f xs k true false (slice_get_within xs k false is) in
-    let was : f (get_or xs k false) ≡ 1 = rw (get_or_from_slice_get xs k false false is) refl in
-    omega (arith, written, was)
-
-no_mark : (count node : ℕ) → ¬ Marked (replicate count false) node
-no_mark count node is = false≢true (sym (get_filled count false node true is))
 
 -- a node without a mark isn't listed
 unlisted : (marks : List Bool) (found : List ℕ) (node place : ℕ) → AreListed marks found → slice_get marks node ≡ Some false
@@ -46,7 +34,7 @@ listed_more marks found node are none = record {
     | inl earlier ↦ get_kept marks node one true (are.marked place one earlier)
     | inr e ↦ rw e (get_written marks node false true none)
   ];
-  listed = λ one m. elim (old_mark marks node one m) [
+  listed = λ one m. elim (old-mark marks node one m) [
     | inl earlier ↦ Contains-append_left found (node ∷ []) one (are.listed one earlier)
     | inr e ↦ rw e (Contains-push found node)
   ];
@@ -96,7 +84,7 @@ finds_more nodes node m n o f g h finds (had_none is written pushed) = rw (writt
     | inl earlier ↦ get_kept n node one true (finds.marked one earlier)
     | inr e ↦ rw (← e) (get_written n node false true is)
   ];
-  source = λ one marked. elim (old_mark n node one marked) [
+  source = λ one marked. elim (old-mark n node one marked) [
     | inl earlier ↦ elim (finds.source one earlier) [
       | inl was ↦ inl was
       | inr there ↦ inr (Contains-append_left nodes (node ∷ []) one there)
@@ -105,7 +93,7 @@ finds_more nodes node m n o f g h finds (had_none is written pushed) = rw (writt
   ];
   front = λ place one stands. get_front g (node ∷ []) place one (finds.front place one stands);
   balance =
-      let count = count_set n node is in
+      let count = count_marked n node is in
       let longer = length-append g (node ∷ []) in
       omega (arith, count, longer, finds.balance);
   same = λ are. listed_more n g node (finds.same are) is;
@@ -113,26 +101,12 @@ finds_more nodes node m n o f g h finds (had_none is written pushed) = rw (writt
 
 -- ---- inside
 
-pub starts_inside : (rows : List (List ℕ)) (starts : List ℕ) (marks : List Bool) → AreInside rows starts → length marks ≡ length rows
-    → All (λ node. node < length marks) starts
-starts_inside rows starts marks inside whole =
-    all_contained (λ (node : ℕ). node < length marks) starts (λ node there. rw whole (inside.starts_inside node there))
-
-edge_to : (rows : List (List ℕ)) (from to : ℕ) → Contains (targets_of rows from) to → Edge rows from to
-edge_to rows from to there = let at = get_contained (targets_of rows from) to there in record { number = at.0; leads = at.1 }
-
-pub targets_inside : (rows : List (List ℕ)) (starts : List ℕ) (from : ℕ) (marks : List Bool) → AreInside rows starts → length marks ≡ length rows
-    → All (λ node. node < length marks) (targets_of rows from)
-targets_inside rows starts from marks inside whole =
-    all_contained (λ (node : ℕ). node < length marks) (targets_of rows from)
-    (λ node there. rw whole (inside.edges_inside from node (edge_to rows from node there)))
-
 -- ---- the search
 
 pub search_start : (rows : List (List ℕ)) (starts : List ℕ) (none marks : List Bool) (found : List ℕ) → none ≡ replicate (length rows) false
     → FindsAll starts none marks [] found → IsSearch rows starts marks found
 search_start rows starts none marks found unmarked finds =
-    let never : (node : ℕ) → ¬ Marked none node = λ node is. no_mark (length rows) node (rw unmarked at is) in
+    let never : (node : ℕ) → ¬ Marked none node = λ node is. no-mark (length rows) node (rw unmarked at is) in
     record {
       whole = finds.whole ∙ ap length unmarked ∙ length-replicate (length rows) false;
       starts_marked = finds.marked;
@@ -152,7 +126,7 @@ search_more rows starts m n f g from search is finds = record {
   are = finds.same search.are;
   reached = λ node marked. elim (finds.source node marked) [
     | inl was ↦ search.reached node was
-    | inr there ↦ along from node (search.reached from is) (edge_to rows from node there)
+    | inr there ↦ along from node (search.reached from is) (edge-to rows from node there)
   ];
 }
 

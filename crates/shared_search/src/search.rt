@@ -1,3 +1,5 @@
+//! A search whose marks and lists are used again for the next one.
+
 ghost use Rattle.std.specs.Prelude.{◌≡◌, ◌<◌, ℕ, length, replicate, false, IfOk};
 ghost use Rattle.std.specs.List.{All, Contains};
 ghost use Rattle.graph_search.specs.Edges.{targets_of, AreInside};

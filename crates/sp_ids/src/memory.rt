@@ -1,3 +1,5 @@
+//! The error of lacking memory, which each crate answers alike.
+
 use std::alloc::{AllocError, AllocFailed};
 use std::error::Error;
 use std::fmt;

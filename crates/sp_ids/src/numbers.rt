@@ -1,3 +1,5 @@
+//! Numbers of a width in bits, wrapped and with their sign.
+
 ghost use Rattle.std.specs.Prelude.{◌≡◌, ◌+◌, ◌^◌, ◌≤◌};
 ghost use Rattle.sp_ids.specs.Numbers.{wrapped, signed};
 

@@ -47,13 +47,6 @@ name-plain b bs small begins =
 pub name-none : (b : ℕ) (bs : List ℕ) → is_ascii_digit b ≡ false → begins_name b ≡ false → (b == zero_digit) ≡ false → HasNoFront is_name (b ∷ bs)
 name-none b bs digit begins other = no_front-first is_name b bs refl (λ cs. simp (begins, digit, other))
 
-pub name-nil : HasNoFront is_name []
-name-nil = record { none = none }
-  where
-    none : (len : ℕ) → len ≤ 0 → is_name (take len []) ≡ false
-    none zero fits = refl
-    none (suc len) fits = absurd (omega arith)
-
 -- digits
 
 pub digits-all : (bs : List ℕ) → prefix_len is_ascii_digit bs ≢ 0 → IsLongestFront are_digits bs (prefix_len is_ascii_digit bs)

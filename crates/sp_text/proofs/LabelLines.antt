@@ -4,7 +4,7 @@ use Rattle.std.specs.List.{list_all, prefix_len, position_or_len}
 use Rattle.std.proofs.lemmas.Bool.{and_parts, ne_eqb, cases_lt}
 use Rattle.std.proofs.lemmas.List.{length-take-le, take-append-drop, drop-drop}
 use Rattle.sp_text.specs.Bytes.{colon}
-use Rattle.sp_text.specs.Fronts.{IsLongestFront, HasNoFront}
+use Rattle.sp_text.specs.Fronts.{IsLongestFront}
 use Rattle.sp_text.specs.Labels.{is_colon, label_in}
 use Rattle.sp_text.specs.Tokens.{is_name, says_nothing}
 use Rattle.sp_text.proofs.LineLemmas.{label-none, label-some, label-no_name, label-more}
@@ -79,6 +79,3 @@ label-other bs more b len front e other =
     let isnt : is_colon b ≡ false = ne_eqb b colon other in
     let one : prefix_len no_colon_byte (b ∷ more) ≡ 1 + prefix_len no_colon_byte more = rw isnt refl in
     label-no_colon bs len front (omega (arith, one, ap (λ rest. prefix_len no_colon_byte rest) e))
-
-pub label-no_front : (bs : List ℕ) → HasNoFront is_name bs → label_in bs ≡ None
-label-no_front bs front = no_label bs (λ fits. front.none (position_or_len is_colon bs) (omega arith))

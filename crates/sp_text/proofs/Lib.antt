@@ -1,4 +1,4 @@
-pub mod Examples
+pub mod Samples
 pub mod FrontLemmas
 pub mod KindLemmas
 pub mod LabelLines

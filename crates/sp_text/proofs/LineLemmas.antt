@@ -1,14 +1,13 @@
 -- The first line of a text, and label lines.
-use Rattle.std.proofs.Common.{◌≡◌, refl, ap, sym, ◌∙◌, ℕ, suc, ◌+◌, ◌<◌, ◌≤◌, Bool, true, false, List, [], ◌∷◌, length, take, drop, arith, None, Some, inl, inr, cond}
+use Rattle.std.proofs.Common.{◌≡◌, refl, ap, ◌∙◌, ℕ, suc, ◌+◌, ◌<◌, ◌≤◌, Bool, true, false, List, [], ◌∷◌, length, take, drop, arith, None, Some, inl, inr, cond}
 use Rattle.std.specs.Prelude.{◌==◌, ◌&&◌}
 use Rattle.std.specs.List.{list_any, position_or_len, before_first, after_first, slice_split, All}
 use Rattle.std.specs.Str.Lines.{lines, lines_of_parts, strip_carriage_return}
-use Rattle.std.proofs.lemmas.Bool.{cases_Bool, cases_eq, eq-eqb, ne_eqb, cond-true, cond-false, and_from, and_left, and_right}
-use Rattle.std.proofs.lemmas.List.{take_all, drop_all, drop-drop, nil_from_length}
+use Rattle.std.proofs.lemmas.Bool.{cases_Bool, ne_eqb, cond-true, cond-false, and_from, and_left, and_right}
+use Rattle.std.proofs.lemmas.List.{drop_all, drop-drop, nil_from_length}
 use Rattle.std.proofs.lemmas.List.Folds.{list_any_none}
 use Rattle.std.proofs.lemmas.List.Splits.{slice_split_first, slice_split_none, length-slice_split}
 use Rattle.std.proofs.lemmas.List.Sums.{fails_before_first}
-use Rattle.sp_text.specs.Fronts.{IsLongestFront, HasNoFront}
 use Rattle.sp_text.specs.Labels.{is_colon, label_in}
 use Rattle.sp_text.specs.Lines.{lines_left}
 use Rattle.sp_text.specs.Tokens.{is_name, says_nothing}
@@ -40,15 +39,6 @@ lines-last bs some none =
     by (b ∷ bs) some = (let e : (suc (length bs) == 0) ≡ false = ne_eqb (suc (length bs)) 0 (λ e. omega (arith, e)) in rw e refl)
 
 -- names
-
-pub name-whole : (bs : List ℕ) (len : ℕ) → IsLongestFront is_name bs len → (len == length bs) ≡ is_name bs
-name-whole bs len front = elim (cases_eq len (length bs)) [
-  | inl e ↦ eq-eqb len (length bs) e ∙ sym front.passes ∙ ap is_name (take_all len bs (omega (arith, e)))
-  | inr ne ↦ ne_eqb len (length bs) ne ∙ sym (front.longest (length bs) (omega (arith, front.within)) (omega arith)) ∙ ap is_name (take_all (length bs) bs (omega arith))
-]
-
-pub name-no_front : (bs : List ℕ) → HasNoFront is_name bs → false ≡ is_name bs
-name-no_front bs front = sym (front.none (length bs) (omega arith)) ∙ ap is_name (take_all (length bs) bs (omega arith))
 
 -- labels
 

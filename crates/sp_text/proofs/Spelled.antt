@@ -92,7 +92,7 @@ digits-ends (b ∷ bs) rest digits stop =
     rw e at (digits-all ((b ∷ bs) ++ rest) (λ none. omega (arith, e, none)))
 
 -- a number without leading zeros is digits
-numeral_digits : (bs : List ℕ) → is_numeral bs ≡ true → are_digits bs ≡ true
+pub numeral_digits : (bs : List ℕ) → is_numeral bs ≡ true → are_digits bs ≡ true
 numeral_digits [] numeral = cc
 numeral_digits (b ∷ bs) numeral = by (b == zero_digit) refl numeral
   where
@@ -214,7 +214,7 @@ unfolding tokens tokens_after
 tokens-blank b bs blank = simp blank
 
 -- no line has more tokens than bytes
-length-tokens_after : (skip : ℕ) (bs : List ℕ) → length (tokens_after skip bs) ≤ length bs
+pub length-tokens_after : (skip : ℕ) (bs : List ℕ) → length (tokens_after skip bs) ≤ length bs
 unfolding tokens_after
 length-tokens_after skip [] = omega arith
 length-tokens_after (suc skip) (b ∷ bs) = omega (arith, length-tokens_after skip bs)

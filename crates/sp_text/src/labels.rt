@@ -1,3 +1,5 @@
+//! Lines that are a label or metadata alone, known without reading their tokens.
+
 ghost use Rattle.std.specs.Prelude.{◌≡◌};
 ghost use Rattle.std.specs.Option.{option_map};
 ghost use Rattle.sp_text.specs.Labels.{label_of, label_in, is_metadata};

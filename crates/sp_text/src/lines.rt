@@ -1,3 +1,5 @@
+//! The lines of a text, with their numbers.
+
 ghost use Rattle.std.specs.Prelude.{◌≡◌, ◌+◌, ◌<◌, ◌≤◌, ◌↔◌, [], ◌∷◌, length, take, drop, IsNone, IfSome, IfNone, OnSome};
 ghost use Rattle.std.specs.Str.Lines.{lines, strip_carriage_return};
 

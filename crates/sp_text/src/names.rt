@@ -1,3 +1,5 @@
+//! A name as a text spells it.
+
 ghost use Rattle.std.specs.Prelude.{IsTrue};
 ghost use Rattle.sp_text.specs.Tokens.{is_name};
 

@@ -1,3 +1,5 @@
+//! The tokens of a line, and where each stands.
+
 ghost use Rattle.std.specs.Prelude.{IsTrue};
 ghost use Rattle.sp_text.specs.Tokens.{is_token};
 

@@ -3,8 +3,8 @@ use Rattle.std.proofs.lemmas.List.{map-append, length-append}
 use Rattle.std.proofs.lemmas.List.Elements.{AllZip-push}
 use Rattle.ir_ast.specs.Funcs.{content_of}
 use Rattle.ir_cfg.specs.Unreached.{DropsUnreached}
-use Rattle.ir_cfg.proofs.KeptLemmas.{lines_push}
 use Rattle.ir_cfg.proofs.unreached.all_without.Goals as goal
+use Rattle.ir_ast.proofs.FuncLaws.{lines_push}
 
 pub loop-func-preserved : goal.loop-func-preserved
 loop-func-preserved c = record {

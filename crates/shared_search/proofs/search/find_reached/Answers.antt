@@ -2,8 +2,9 @@ use Rattle.std.proofs.Common.{◌∙◌, length, ap, refl, false, arith, subst, 
 use Rattle.std.proofs.lemmas.List.{length-replicate}
 use Rattle.std.proofs.lemmas.Option.{slice_get_read, slice_get_within}
 use Rattle.shared_search.specs.Searches.{FindsAll}
-use Rattle.shared_search.proofs.SearchLemmas.{starts_inside, targets_inside, search_start, search_more, followed_none, followed_more, lists_reached, found_inside}
+use Rattle.shared_search.proofs.SearchLemmas.{search_start, search_more, followed_none, followed_more, lists_reached, found_inside}
 use Rattle.shared_search.proofs.search.find_reached.Goals as goal
+use Rattle.graph_search.proofs.SearchLemmas.{targets-inside as targets_inside, starts-inside as starts_inside}
 
 pub find_all-requires : goal.find_all-requires
 find_all-requires g c =
