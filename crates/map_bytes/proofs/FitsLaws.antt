@@ -17,9 +17,6 @@ use Rattle.map_bytes.proofs.FilledLaws.{AreSigned, fixed-holds}
 
 -- ---- one field
 
-any-fits : (size n : ℕ) → IsAllowed (any size) n → n < 256 ^ size
-any-fits size n allowed = allowed.fits
-
 allowed-any : (size n : ℕ) → n < 256 ^ size → IsAllowed (any size) n
 allowed-any size n fits = record { fits = fits; breaks_none = refl }
 

@@ -7,4 +7,4 @@ pub mod ReadLaws
 pub mod MapLaws
 pub mod EntryLaws
 pub mod SmallLaws
-mod Examples
+mod Samples

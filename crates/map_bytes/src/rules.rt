@@ -1,3 +1,5 @@
+//! The rules that the bytes of a stack map keep, with their codes and messages.
+
 ghost use Rattle.std.specs.Prelude.{◌≡◌};
 
 use std::error::Error;

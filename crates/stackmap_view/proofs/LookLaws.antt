@@ -1,5 +1,5 @@
 -- A record by its number or its return address, in a walk over the records.
-use Rattle.std.proofs.Common.{◌≡◌, ℕ, suc, ◌+◌, ◌-◌, ◌<◌, ◌≤◌, Bool, true, false, cond, List, [], ◌∷◌, Option, Some, None, sym, ap, ◌∙◌, arith}
+use Rattle.std.proofs.Common.{◌≡◌, ℕ, suc, ◌+◌, ◌-◌, ◌<◌, ◌≤◌, Bool, false, cond, List, [], ◌∷◌, Option, Some, None, sym, ap, ◌∙◌, arith}
 use Rattle.std.specs.Prelude.{slice_get, option_map}
 use Rattle.std.specs.List.{find}
 use Rattle.std.specs.Iterator.{YieldsFirstBy}
@@ -22,14 +22,8 @@ entry-more xs ys one index i total lt e so_far =
     let k : index - i ≡ suc (index - (i + 1)) = omega arith in
     sym (ap (λ (n : ℕ). slice_get (one ∷ ys) n) k) ∙ sym (ap (λ (x : List Entry). slice_get x (index - i)) e) ∙ so_far
 
-pub entry-past : (xs : List Entry) (n : ℕ) (total : Option Entry) → xs ≡ [] → slice_get xs n ≡ total → total ≡ None
-entry-past xs n total e so_far = sym so_far ∙ ap (λ (x : List Entry). slice_get x n) e
-
 pub find-more : (p : Entry → Bool) (xs ys : List Entry) (one : Entry) (total : Option Entry) → xs ≡ one ∷ ys → p one ≡ false → find p xs ≡ total → find p ys ≡ total
 find-more p xs ys one total e fails so_far = sym (ap (λ (b : Bool). cond b (Some one) (find p ys)) fails) ∙ sym (ap (find p) e) ∙ so_far
-
-pub find-here : (p : Entry → Bool) (xs ys : List Entry) (one : Entry) (total : Option Entry) → xs ≡ one ∷ ys → p one ≡ true → find p xs ≡ total → Some one ≡ total
-find-here p xs ys one total e passes so_far = sym (ap (λ (b : Bool). cond b (Some one) (find p ys)) passes) ∙ sym (ap (find p) e) ∙ so_far
 
 pub find-end : (p : Entry → Bool) (xs : List Entry) (total : Option Entry) → xs ≡ [] → find p xs ≡ total → (let none : Option Entry = None in none) ≡ total
 find-end p xs total e so_far = sym (ap (find p) e) ∙ so_far
