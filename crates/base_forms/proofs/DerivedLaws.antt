@@ -1,8 +1,7 @@
 -- The table of marks has the derived values, and no other table has.
-use Rattle.std.proofs.Common.{◌≡◌, ◌∙◌, ℕ, zero, suc, Bool, true, false, ◌&&◌, ◌||◌, List, [], ◌∷◌, length, map, Some, slice_get, refl, ap, sym, arith, inl, inr}
+use Rattle.std.proofs.Common.{◌≡◌, ◌∙◌, ℕ, zero, suc, Bool, true, false, ◌&&◌, ◌||◌, List, [], ◌∷◌, map, Some, slice_get, refl, ap, sym, inl, inr}
 use Rattle.std.specs.List.{list_any, Contains}
 use Rattle.std.proofs.lemmas.Bool.{cases_Bool, false≢true}
-use Rattle.std.proofs.lemmas.Option.{same_Some, get_or_from_slice_get}
 use Rattle.list_laws.proofs.Places.{get_map}
 use Rattle.list_laws.proofs.Contents.{contains_none, contains_first, contains_later, contains_cons}
 use Rattle.ir_ast.specs.Funcs.{Function}
@@ -11,14 +10,8 @@ use Rattle.ir_ast.specs.Operands.{values_used}
 use Rattle.ir_ast.specs.Derived.{is_step, is_merge, Derived, by_step, by_merge}
 use Rattle.base_forms.specs.DerivedMarks.{has_mark, uses_marked, derives, marks_after, derived_marks, MarksDerived}
 use Rattle.base_forms.proofs.MarkLaws.{derived_again, length-derived_marks, derived_within}
-
-pub mark_got : (marks : List Bool) (value : ℕ) → has_mark marks value ≡ true → slice_get marks value ≡ Some true
-mark_got [] value is = absurd (false≢true is)
-mark_got (mark ∷ marks) zero is = ap (λ (m : Bool). Some m) is
-mark_got (mark ∷ marks) (suc value) is = mark_got marks value is
-
-pub got_mark : (marks : List Bool) (value : ℕ) → slice_get marks value ≡ Some true → has_mark marks value ≡ true
-got_mark marks value is = get_or_from_slice_get marks value true false is
+use Rattle.list_laws.proofs.Tests.{same_marks}
+use Rattle.ir_ast.proofs.OpLaws.{mark_got, got_mark}
 
 -- a marked value among some
 pub record Found (marks : List Bool) (values : List ℕ) : Type 0 where
@@ -106,22 +99,6 @@ marks_derived func = record {
 }
 
 -- ---- one table
-
-same_marks : (marks others : List Bool) → length marks ≡ length others
-    → ((value : ℕ) → slice_get marks value ≡ Some true → slice_get others value ≡ Some true)
-    → ((value : ℕ) → slice_get others value ≡ Some true → slice_get marks value ≡ Some true) → marks ≡ others
-same_marks [] [] size there back = refl
-same_marks [] (other ∷ others) size there back = absurd (omega (arith, size))
-same_marks (mark ∷ marks) [] size there back = absurd (omega (arith, size))
-same_marks (mark ∷ marks) (other ∷ others) size there back =
-    first mark other (λ is. same_Some other true (there 0 (ap (λ (m : Bool). Some m) is))) (λ is. same_Some mark true (back 0 (ap (λ (m : Bool). Some m) is)))
-    (same_marks marks others (omega (arith, size)) (λ value is. there (suc value) is) (λ value is. back (suc value) is))
-  where
-    first : (m o : Bool) → (m ≡ true → o ≡ true) → (o ≡ true → m ≡ true) → marks ≡ others → m ∷ marks ≡ o ∷ others
-    first true true kept came same = ap (λ zs. true ∷ zs) same
-    first true false kept came same = absurd (false≢true (kept refl))
-    first false true kept came same = absurd (false≢true (came refl))
-    first false false kept came same = ap (λ zs. false ∷ zs) same
 
 -- there is one table of marks
 pub only_marks : (func : Function) (marks : List Bool) → MarksDerived func marks → marks ≡ derived_marks func

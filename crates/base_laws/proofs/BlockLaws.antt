@@ -1,5 +1,5 @@
 -- The lines of a function with bases are the images of its lines, block by block; and how many registers it has.
-use Rattle.std.proofs.Common.{◌≡◌, ℕ, zero, suc, ◌+◌, ◌-◌, ◌<◌, Bool, true, false, if◌then◌else◌, List, [], ◌∷◌, ◌++◌, length, map, drop, refl, sym, ap, subst, ◌∙◌, append_assoc, append-nil, arith}
+use Rattle.std.proofs.Common.{◌≡◌, ℕ, zero, suc, ◌+◌, ◌-◌, Bool, true, false, if◌then◌else◌, List, [], ◌∷◌, ◌++◌, length, map, drop, refl, sym, ap, subst, ◌∙◌, append_assoc, append-nil, arith}
 use Rattle.std.specs.Prelude.{Option, Some, is_some, slice_get, slice_index, filter, count_by}
 use Rattle.std.specs.List.{All}
 use Rattle.std.proofs.lemmas.List.{length-map, map-append}
@@ -23,12 +23,11 @@ use Rattle.base_laws.proofs.PlacedLaws.{has_result}
 use Rattle.base_laws.proofs.TypeLaws.{MarksPointers}
 use Rattle.base_laws.proofs.NumberLaws.{definition_count, first_keeps, renaming_of, shift_last}
 use Rattle.base_laws.proofs.LineLaws.{IsReady, line_made, line_of}
+use Rattle.list_laws.proofs.Places.{drop_first}
+use Rattle.object_meaning.proofs.LineLaws.{after_append}
+pub use Rattle.object_meaning.proofs.LineLaws.{after_append, last_register}
 
 -- ---- registers
-
-pub after_append : (next : ℕ) (xs ys : List Instruction) → after_all next (xs ++ ys) ≡ after_all (after_all next xs) ys
-after_append next [] ys = refl
-after_append next (x ∷ xs) ys = after_append (following next x) xs ys
 
 plain_append : (next : ℕ) (xs ys : List Instruction) → plain_lines next (xs ++ ys) ≡ plain_lines next xs ++ plain_lines (after_all next xs) ys
 plain_append next [] ys = refl
@@ -43,25 +42,6 @@ after_is next (inst ∷ insts) = by (is_some inst.result) (λ n. after_is n inst
     by true rest = let is = rest (next + 1) in omega arith
     by false rest = rest next
 
-last_after : (next : ℕ) (registers : List ℕ) → 0 < length registers → slice_index (next ∷ registers) (length (next ∷ registers) - 1) ≡ slice_index registers (length registers - 1)
-last_after next [] some = absurd (omega arith)
-last_after next (first ∷ registers) some =
-    let longer : suc (suc (length registers)) - 1 ≡ suc (length registers) = omega arith in
-    let shorter : suc (length registers) - 1 ≡ length registers = omega arith in
-    ap (λ place. slice_index (next ∷ first ∷ registers) place) longer ∙ sym (ap (λ place. slice_index (first ∷ registers) place) shorter)
-
-some_registers : (next : ℕ) (blocks : List BasicBlock) → 0 < length (first_registers next blocks)
-some_registers next [] = omega arith
-some_registers next (block ∷ blocks) = omega arith
-
--- the last number is how many registers there are
-pub last_register : (next : ℕ) (blocks : List BasicBlock)
-    → slice_index (first_registers next blocks) (length (first_registers next blocks) - 1) ≡ after_all next (instructions_of blocks)
-last_register next [] = refl
-last_register next (block ∷ blocks) =
-    last_after next (first_registers (after_all next block.insts) blocks) (some_registers (after_all next block.insts) blocks)
-    ∙ (last_register (after_all next block.insts) blocks ∙ sym (after_append next block.insts (instructions_of blocks)))
-
 -- ---- which definitions come next
 
 abbrev pub given_by : List Instruction → List Definition
@@ -69,18 +49,6 @@ given_by insts = map outcome (filter has_result insts)
 
 pub given_append : (xs ys : List Instruction) → given_by (xs ++ ys) ≡ given_by xs ++ given_by ys
 given_append xs ys = ap (map outcome) (filter-append has_result xs ys) ∙ map-append outcome (filter has_result xs) (filter has_result ys)
-
-drop_first : {A : Type 0} (all : List A) (place : ℕ) (x : A) (rest : List A) → drop place all ≡ x ∷ rest → (slice_get all place ≡ Some x) × (drop (place + 1) all ≡ rest)
-drop_first [] zero x rest is = absurd cc
-drop_first [] (suc place) x rest is = absurd cc
-drop_first (y ∷ all) zero x rest is =
-    let same : y ≡ x = cc in
-    let behind : all ≡ rest = cc in
-    (ap (λ z. Some z) same, behind)
-drop_first (y ∷ all) (suc place) x rest is =
-    let found = drop_first all place x rest is in
-    let further : suc place + 1 ≡ suc (place + 1) = omega arith in
-    (found.0, ap (λ n. drop n (y ∷ all)) further ∙ found.1)
 
 drop_given : (all : List Definition) (next : ℕ) (inst : Instruction) (insts : List Instruction) (after : List Definition) → drop next all ≡ given_by (inst ∷ insts) ++ after
     → (is_some inst.result ≡ true → slice_get all next ≡ Some (outcome inst)) × (drop (following next inst) all ≡ given_by insts ++ after)

@@ -25,6 +25,8 @@ use Rattle.base_forms.specs.Inserted.{is_merged}
 use Rattle.base_forms.specs.Based.{base_line, based_blocks, based_insts, check, compared, kept_line, lines_for, merged, negation, same_call}
 use Rattle.renaming_laws.proofs.ListLaws.{all_first, all_rest}
 use Rattle.base_laws.specs.BeforeLiveness.{PhisStandFirst, begins_with_phi}
+use Rattle.std.proofs.lemmas.Bool.{not-true}
+use Rattle.ir_ast.proofs.OpLaws.{phi_goes_on}
 
 -- ---- each line that stands for an instruction
 
@@ -97,10 +99,6 @@ true_second : (a b : Bool) → a && b ≡ true → b ≡ true
 true_second true b both = both
 true_second false b both = absurd cc
 
-not_true : (b : Bool) → not b ≡ true → b ≡ false
-not_true true is = absurd cc
-not_true false is = refl
-
 not_false : (b : Bool) → b ≡ false → not b ≡ true
 not_false b is = ap not is
 
@@ -156,11 +154,7 @@ ends_placed number block ended = record {
 
 pub lead_of_none : (insts : List Instruction) → list_all no_phi insts ≡ true → phis_lead insts ≡ true
 lead_of_none [] none = refl
-lead_of_none (inst ∷ insts) none = rw (not_true (is_phi inst.op) (true_first (no_phi inst) (list_all no_phi insts) none)) (true_second (no_phi inst) (list_all no_phi insts) none)
-
-phi_goes_on : (op : Op) → is_phi op ≡ true → is_terminator op ≡ false
-phi_goes_on ops.Phi phi = refl
-phi_goes_on op phi = absurd cc
+lead_of_none (inst ∷ insts) none = rw (not-true (is_phi inst.op) (true_first (no_phi inst) (list_all no_phi insts) none)) (true_second (no_phi inst) (list_all no_phi insts) none)
 
 pub lead_polled : (number : ℕ) (insts : List Instruction) → phis_lead insts ≡ true → phis_lead (flat_map (polled number) insts) ≡ true
 lead_polled number [] lead = refl
@@ -312,7 +306,7 @@ lead_first (first ∷ insts) lead = by (is_phi first.op) refl lead (λ rest. lea
     none [] quiet place inst at phi = cc
     none (x ∷ all) quiet zero inst at phi =
         let same : x ≡ inst = cc in
-        let not_one = not_true (is_phi x.op) (true_first (no_phi x) (list_all no_phi all) quiet) in
+        let not_one = not-true (is_phi x.op) (true_first (no_phi x) (list_all no_phi all) quiet) in
         let one : is_phi x.op ≡ true = ap (λ i. is_phi i.op) same ∙ phi in
         cc
     none (x ∷ all) quiet (suc place) inst at phi = none all (true_second (no_phi x) (list_all no_phi all) quiet) place inst at phi

@@ -28,8 +28,9 @@ use Rattle.base_laws.proofs.PlacedLaws.{block_placed, plain_polled, registers_pl
 use Rattle.base_laws.proofs.TypeLaws.{IsTypedLine, MarksPointers, derived_are_pointers}
 use Rattle.base_laws.proofs.NumberLaws.{is_renaming, renaming_of}
 use Rattle.base_laws.proofs.LineLaws.{IsReady}
-use Rattle.base_laws.proofs.BlockLaws.{based_block, last_register, now_room_is, room_is}
+use Rattle.base_laws.proofs.BlockLaws.{based_block, now_room_is, room_is}
 use Rattle.base_laws.proofs.ReadyLaws.{has_block, ready, renaming_found, renamings}
+use Rattle.object_meaning.proofs.LineLaws.{last_register}
 
 -- ---- functions by number
 

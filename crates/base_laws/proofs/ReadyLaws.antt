@@ -5,7 +5,6 @@ use Rattle.std.specs.List.{All, AllZip}
 use Rattle.std.specs.Option.{option_map, option_map_or}
 use Rattle.std.proofs.lemmas.List.{length-map}
 use Rattle.std.proofs.lemmas.List.Elements.{All-nil}
-use Rattle.std.proofs.lemmas.Slice.Zip.{AllZip-long}
 use Rattle.list_laws.proofs.Contents.{all_at, all_from_at}
 use Rattle.ir_ast.specs.declared.modules.Form.TheVariants.{Source}
 use Rattle.ir_ast.specs.declared.types.Ty.{Ty}
@@ -34,6 +33,7 @@ use Rattle.renaming_laws.specs.Renamed.{ArgumentsFit, CalleeTakes, Renaming, Tak
 use Rattle.base_laws.proofs.PlacedLaws.{all_placed, definitions_placed}
 use Rattle.base_laws.proofs.NumberLaws.{renaming_of}
 use Rattle.base_laws.proofs.LineLaws.{IsReady}
+use Rattle.list_laws.proofs.Zips.{zip_lengths}
 
 abbrev no_function : Function
 no_function = record { name = []; answer = Void; args = []; blocks = [] }
@@ -46,9 +46,6 @@ abbrev pub renamings : ModuleContent → ℕ → Renaming
 renamings content number = renaming_found (slice_get content.funcs number)
 
 -- ---- calls
-
-same_lengths : {A B : Type 0} (R : A → B → Type 0) (xs : List A) (ys : List B) → AllZip R xs ys → length xs ≡ length ys
-same_lengths R xs ys all = sym (AllZip-long R xs ys all)
 
 takes_found : (found : Option Function) (answer : Ty) (params : List Ty) (count : ℕ) → option_map signature_of found ≡ Some (record { answer = answer; params = params })
     → count ≡ length params → Takes (renaming_found found) count
@@ -65,7 +62,7 @@ callee_takes : (content : ModuleContent) (func : Function) (inst : Instruction) 
     → CalleeTakes (renamings content) callee inst.operands
 callee_takes content func inst (callees.Fun named) types line call =
     takes_found (slice_get content.funcs named.0) inst.ty types (length inst.operands) call.signature
-    (same_lengths (λ operand ty. is_argument (callees.Fun named) operand ty ≡ true) inst.operands types line.arguments)
+    (zip_lengths (λ operand ty. is_argument (callees.Fun named) operand ty ≡ true) inst.operands types line.arguments)
 callee_takes content func inst callees.TaskStart types line call =
     let starts = call.operands in
     subst (λ (number : ℕ). Takes (renamings content number) 1) (sym (ap function_in starts.1))

@@ -1,6 +1,6 @@
 -- The functions of the module with bases are in shape for liveness.
 use Rattle.std.proofs.Common.{◌≡◌, ℕ, zero, suc, ◌+◌, ◌<◌, Bool, true, false, not, ◌&&◌, List, [], ◌∷◌, ◌++◌, length, map, refl, sym, ap, subst, ◌∙◌, append_assoc, arith}
-use Rattle.std.specs.Prelude.{Option, Some, None, is_some, slice_get}
+use Rattle.std.specs.Prelude.{Option, Some, None, slice_get}
 use Rattle.std.specs.List.{All, list_all}
 use Rattle.std.specs.Option.{option_map, option_map_or}
 use Rattle.std.proofs.lemmas.List.{length-map}
@@ -51,6 +51,7 @@ use Rattle.base_laws.proofs.PlacedLaws.{all_placed}
 use Rattle.base_laws.proofs.PollLaws.{graph_placed}
 use Rattle.base_laws.proofs.FormLaws.{all_based_blocks, each_line, edges_based, ends_based, ends_placed, lead_based, lead_first, lead_of_none, lead_polled, phi_splits, phis_lead, quiet_polled}
 use Rattle.base_laws.proofs.MeaningLaws.{found_now}
+use Rattle.list_laws.proofs.Options.{is_none}
 
 -- ---- calls
 
@@ -105,16 +106,12 @@ plain_member ops.GcResult plain = absurd cc
 plain_member ops.GcRelocate plain = absurd cc
 plain_member op plain = refl
 
-none_of : {A : Type 0} (x : Option A) → is_some x ≡ false → x ≡ None
-none_of None is = refl
-none_of (Some x) is = absurd cc
-
 ends_unnamed : (inst : Instruction) → IsLine inst → (op : Op) → inst.op ≡ op → is_terminator op ≡ true → inst.result ≡ None
-ends_unnamed inst line ops.Br is ends = none_of inst.result (subst (λ (op : Op). LineOf op inst) is line).result
-ends_unnamed inst line ops.CondBr is ends = none_of inst.result (subst (λ (op : Op). LineOf op inst) is line).result
-ends_unnamed inst line ops.Switch is ends = none_of inst.result ((subst (λ (op : Op). LineOf op inst) is line).0).result
-ends_unnamed inst line ops.Ret is ends = none_of inst.result (subst (λ (op : Op). LineOf op inst) is line).result
-ends_unnamed inst line ops.Unreachable is ends = none_of inst.result (subst (λ (op : Op). LineOf op inst) is line).result
+ends_unnamed inst line ops.Br is ends = is_none inst.result (subst (λ (op : Op). LineOf op inst) is line).result
+ends_unnamed inst line ops.CondBr is ends = is_none inst.result (subst (λ (op : Op). LineOf op inst) is line).result
+ends_unnamed inst line ops.Switch is ends = is_none inst.result ((subst (λ (op : Op). LineOf op inst) is line).0).result
+ends_unnamed inst line ops.Ret is ends = is_none inst.result (subst (λ (op : Op). LineOf op inst) is line).result
+ends_unnamed inst line ops.Unreachable is ends = is_none inst.result (subst (λ (op : Op). LineOf op inst) is line).result
 ends_unnamed inst line op is ends = absurd cc
 
 -- ---- lines

@@ -15,7 +15,6 @@ use Rattle.ir_ast.specs.declared.ops.Operand.{Operand}
 use Rattle.ir_ast.specs.declared.ops.Operand.TheVariants as operands
 use Rattle.ir_ast.specs.Insts.{Instruction}
 use Rattle.ir_ast.specs.Funcs.{Function, instructions_of}
-use Rattle.ir_ast.specs.Types.{is_pointer}
 use Rattle.ir_ast.specs.Lines.{IsLine, LineOf}
 use Rattle.ir_ast.specs.Operands.{value_in}
 use Rattle.ir_ast.specs.Values.{Definition, Gives, argument, definition_type, definitions_of, outcome, outcome_type, value_types}
@@ -23,6 +22,7 @@ use Rattle.ir_ast.specs.Derived.{is_merge, is_step}
 use Rattle.ir_ast.specs.Faults.TypeClash.{Fits, asked}
 use Rattle.base_forms.specs.DerivedMarks.{derived_marks, derives, has_mark, marks_after, uses_marked}
 use Rattle.base_laws.proofs.PlacedLaws.{has_result}
+use Rattle.ir_ast.proofs.OpLaws.{pointer_is}
 
 -- what is asked of an instruction here: its form, and that its operands have their types
 pub record IsTypedLine (func : Function) (inst : Instruction) : Type 0 where
@@ -82,13 +82,6 @@ marked_type func marks pointers (operands.Value id ∷ given) (ty ∷ wanted) fi
 marked_type func marks pointers (operands.Int literal ∷ given) (ty ∷ wanted) fits marked = let found = marked_type func marks pointers given wanted fits.1 marked in (suc found.0, found.1)
 marked_type func marks pointers (operands.Null ∷ given) (ty ∷ wanted) fits marked = let found = marked_type func marks pointers given wanted fits.1 marked in (suc found.0, found.1)
 marked_type func marks pointers (operands.Fun called ∷ given) (ty ∷ wanted) fits marked = let found = marked_type func marks pointers given wanted fits.1 marked in (suc found.0, found.1)
-
-pointer_is : (ty : Ty) → is_pointer ty ≡ true → ty ≡ types.Ptr
-pointer_is types.Ptr is = refl
-pointer_is ty is = absurd cc
-
-some_is : {A : Type 0} (x y : A) → Some x ≡ Some y → x ≡ y
-some_is x y is = cc
 
 -- an instruction without a bundle uses its operands
 pub uses_operands : (marks : List Bool) (inst : Instruction) → inst.bundle ≡ [] → uses_marked marks inst ≡ list_any (has_mark marks) (filter_map value_in inst.operands)

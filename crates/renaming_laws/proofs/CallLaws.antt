@@ -1,5 +1,5 @@
 -- Frames that go on, tasks and calls: what a run does, the run of the images does.
-use Rattle.std.proofs.Common.{◌≡◌, ◌==◌, ℕ, zero, suc, ◌+◌, Bool, true, false, if◌then◌else◌, List, [], ◌∷◌, ◌++◌, length, map, take, drop, refl, ap, ◌∙◌, arith}
+use Rattle.std.proofs.Common.{◌≡◌, ◌==◌, ℕ, ◌+◌, Bool, true, false, if◌then◌else◌, List, [], ◌∷◌, ◌++◌, length, map, take, drop, refl, ap, ◌∙◌, arith}
 use Rattle.std.specs.Prelude.{Option, Some, None, slice_get, slice_set, ℤ, pos, nat_lt, int_lt, unsigned_abs, Result, Ok, Err}
 use Rattle.std.specs.Int.{w64, cast_unsigned}
 use Rattle.std.specs.List.{All, sum_by}
@@ -32,6 +32,7 @@ use Rattle.renaming_laws.proofs.ListLaws.{all_dropped, before, behind, drop_behi
 use Rattle.renaming_laws.proofs.RegisterLaws.{Kept, entered_kept, function_same, operand_kept, put_kept, values_kept}
 use Rattle.renaming_laws.proofs.FrontLaws.{images_behind, members_class, members_kept, tested}
 use Rattle.renaming_laws.proofs.Related.{EffectKept, FrameGoes, FramesKept, Goes, Lasts, TaskKept, TasksKept, WaitKept, Waits, at_line, both_end, both_go, both_print, built, frame_goes, frames_length, goes, image, line_there, more_frames, no_frames, no_task, one_task, task_get, task_push, task_set, tasks_length, waits}
+use Rattle.list_laws.proofs.Places.{drop_map}
 
 -- the setting with other lines, other registers and other names for its functions
 abbrev pub with_lines : Setting → (ℕ → ℕ → List Line) → List Line → (ℕ → ℕ) → (ℕ → List ℕ) → Setting
@@ -50,11 +51,6 @@ regrouped_is frame entries rest answer =
     (drop_behind (tested is_member) rest)
     ∙ ap (λ members. record frame { rest = behind (tested is_member) rest; registers = put_all (map (member_write frame.registers entries answer) members) frame.registers })
     (take_before (tested is_member) rest)
-
-pub drop_map : {A B : Type 0} (f : A → B) (count : ℕ) (xs : List A) → drop count (map f xs) ≡ map f (drop count xs)
-drop_map f zero xs = refl
-drop_map f (suc count) [] = refl
-drop_map f (suc count) (x ∷ xs) = drop_map f count xs
 
 module _ (functions : ℕ → Renaming) (one : Setting) (lines : ℕ → ℕ → List Line) (front : List Line) (registers : ℕ → ℕ) (names : ℕ → List ℕ)
     (law : HasImages functions one (with_lines one lines front registers names)) where

@@ -1,6 +1,5 @@
 -- Lists of which each element has a property, and the front of a list whose elements pass a test.
-use Rattle.std.proofs.Common.{◌≡◌, ℕ, zero, suc, ◌+◌, Bool, true, false, if◌then◌else◌, List, [], ◌∷◌, take, drop, refl, subst, ap, ◌∙◌, arith}
-use Rattle.std.specs.Prelude.{Some, slice_get}
+use Rattle.std.proofs.Common.{◌≡◌, ℕ, zero, suc, ◌+◌, Bool, true, false, if◌then◌else◌, List, [], ◌∷◌, take, drop, refl, ap, ◌∙◌, arith}
 use Rattle.std.specs.List.{All, prefix_len}
 use Rattle.std.proofs.lemmas.List.Elements.{All-cons}
 
@@ -9,11 +8,6 @@ all_first P x xs all = all 0 x (omega arith)
 
 pub all_rest : {A : Type 0} (P : A → Type 0) (x : A) (xs : List A) → All P (x ∷ xs) → All P xs
 all_rest P x xs all = λ k d below. all (suc k) d (omega arith)
-
-pub all_at : {A : Type 0} (P : A → Type 0) (xs : List A) (k : ℕ) (x : A) → All P xs → slice_get xs k ≡ Some x → P x
-all_at P [] k x all is = absurd cc
-all_at P (y ∷ xs) zero x all is = let same : y ≡ x = cc in subst P same (all_first P y xs all)
-all_at P (y ∷ xs) (suc k) x all is = all_at P xs k x (all_rest P y xs all) is
 
 pub all_dropped : {A : Type 0} (P : A → Type 0) (count : ℕ) (xs : List A) → All P xs → All P (drop count xs)
 all_dropped P zero xs all = all

@@ -37,11 +37,13 @@ use Rattle.object_meaning.specs.Traces.{access_of, accesses_at, event_of, events
 use Rattle.renaming_laws.specs.Renamed.{ArgumentsFit, InRoom, Leads, Renaming, renamed}
 use Rattle.renaming_laws.specs.Inserted.{Image, IsFresh, alone, as_negated, as_same, behind_check, behind_merge, check_line, negated_line, pointer_place, same_line}
 use Rattle.renaming_laws.specs.Images.{HasImages, Images, more_lines, no_lines}
-use Rattle.renaming_laws.proofs.ListLaws.{all_at, all_dropped, all_first, all_rest, all_taken, before, behind, drop_behind, take_before}
+use Rattle.renaming_laws.proofs.ListLaws.{all_dropped, all_first, all_rest, all_taken, before, behind, drop_behind, take_before}
 use Rattle.renaming_laws.proofs.RegisterLaws.{Kept, operand_kept, put_fresh, put_kept, read, value_kept}
 use Rattle.renaming_laws.proofs.FrontLaws.{images_behind, phis_class, phis_kept, tested}
 use Rattle.renaming_laws.proofs.Related.{EffectKept, FrameGoes, FramesKept, Goes, Lasts, TasksKept, WaitKept, at_line, both_end, both_go, built, frame_goes, goes, image, line_there}
-use Rattle.renaming_laws.proofs.CallLaws.{called_kept, drop_map, regrouped_goes, returned_kept, stepped_kept, stored_go, with_lines}
+use Rattle.renaming_laws.proofs.CallLaws.{called_kept, regrouped_goes, returned_kept, stepped_kept, stored_go, with_lines}
+use Rattle.list_laws.proofs.Contents.{all_at}
+use Rattle.list_laws.proofs.Places.{drop_map}
 
 -- ---- jumps
 
@@ -53,7 +55,7 @@ behind_phis frame block lines = record frame {
   registers = put_all (map (phi_write frame.block frame.registers) (before (tested is_phi) lines)) frame.registers;
 }
 
-arrived_is : (frame : Frame) (block : ℕ) (lines : List Line) → arrived frame block lines ≡ behind_phis frame block lines
+pub arrived_is : (frame : Frame) (block : ℕ) (lines : List Line) → arrived frame block lines ≡ behind_phis frame block lines
 arrived_is frame block lines =
     ap (λ rest. record frame { block = block; rest = rest; registers = put_all (map (phi_write frame.block frame.registers) (take (phi_count lines) lines)) frame.registers })
     (drop_behind (tested is_phi) lines)
@@ -87,7 +89,7 @@ cases_same rename datum cases = rw (cases_before rename (number_in datum) cases,
 
 -- ---- what checks and compares of pointers do
 
-cell_again : (cell : Cell) → cell_named (kind_of cell) ≡ cell
+pub cell_again : (cell : Cell) → cell_named (kind_of cell) ≡ cell
 cell_again cells.I64 = refl
 cell_again cells.Ptr = refl
 
