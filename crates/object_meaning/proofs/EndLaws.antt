@@ -22,6 +22,7 @@ use Rattle.object_meaning.specs.Calls.{allocated, allocating, called, checked, e
 use Rattle.object_meaning.specs.Comparisons.{bit, same_pointer}
 use Rattle.object_meaning.specs.Computing.{value_of_line}
 use Rattle.object_meaning.specs.Effects.{Effect, goes_on, prints, ends, Progress, after, printed_line}
+pub use Rattle.object_meaning.specs.Finals.{IsFinal}
 use Rattle.object_meaning.specs.Frames.{answered_at, answered_by, entered, group_length, grouped, passed}
 use Rattle.object_meaning.specs.Jumps.{branch_taken, case_taken, jumped, label_at}
 use Rattle.object_meaning.specs.Lines.{Line}
@@ -34,14 +35,6 @@ use Rattle.object_meaning.specs.Steps.{accesses, acts, loading, returned, settle
 use Rattle.object_meaning.specs.Tasks.{handed_over, polled, started, switched, switched_to, task_ended, with_event}
 use Rattle.object_meaning.proofs.StepLaws.{step_at_end}
 use Rattle.std.proofs.lemmas.Bool.{ltb-true}
-
--- a run on objects returns, traps or runs out of steps
-abbrev pub IsFinal : End → Type 0
-IsFinal (ended.Return answer) = Unit {0}
-IsFinal (ended.Trap trap) = Unit {0}
-IsFinal ended.OutOfSteps = Unit {0}
-IsFinal ended.Poison = ⊥
-IsFinal ended.LostFrame = ⊥
 
 pub record Halted (setting : Setting) (start : Progress State) : Type 0 where
   pub end : End

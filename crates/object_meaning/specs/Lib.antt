@@ -14,6 +14,7 @@ pub mod Jumps
 pub mod Steps
 pub mod Traces
 pub mod Texts
+pub mod Finals
 pub mod Outcomes
 pub mod SourceRuns
 pub mod TargetRuns
