@@ -10,4 +10,5 @@ pub mod BlockLines
 pub mod ModuleLaws
 pub mod MeaningLaws
 pub mod ReachedLaws
+pub mod MarkLaws
 mod Samples

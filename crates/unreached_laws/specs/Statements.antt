@@ -32,3 +32,7 @@ EachIsReached func = (block : ℕ) → block < length func.blocks → Reached (g
 -- none of its blocks is unreached
 abbrev pub UnreachedAreGone : Type 0
 UnreachedAreGone = (content after : ModuleContent) → ModuleDropsUnreached content after → All EachIsReached after.funcs
+
+-- each source module has one without its unreached blocks
+abbrev pub UnreachedCanBeDropped : Type 0
+UnreachedCanBeDropped = (content : ModuleContent) → IsSourceModule content → (after : ModuleContent) × ModuleDropsUnreached content after
