@@ -1,5 +1,5 @@
 -- What a writer of pieces has put into its sink, and what it still holds.
-use Rattle.std.specs.Prelude.{◌≡◌, ℕ, ◌≤◌, Bool, true, false, List, [], ◌++◌, Option}
+use Rattle.std.specs.Prelude.{◌≡◌, ℕ, ◌≤◌, Bool, true, false, List, [], ◌++◌, length, Option}
 use Rattle.std.specs.Borrow.{MutBor}
 use Rattle.tool_io.specs.Counts.{Rose}
 use Rattle.tool_io.specs.Sink.{append_known, AppendsFront}
@@ -49,9 +49,20 @@ pub record Fell (old new : Writing) (bytes : List ℕ) : Type 0 where
   pub rose : old.failed ≡ false → Rose old.faults new.faults
   pub silent : old.failed ≡ true → IsSameSink old new
 
--- the same of two writers into one sink
-abbrev pub Takes : {S : Type 0} → (S → Option (List ℕ)) → (S → ℕ) → PieceWriter S → PieceWriter S → List ℕ → Type 0
-Takes written faults old new bytes =
+-- where the buffer of 8,192 bytes has room for these bytes, they wait behind those that were held, and nothing is put
+pub record Waits (old_held new_held : List ℕ) (old_puts new_puts : Option (List (List ℕ))) (bytes : List ℕ) : Type 0 where
+  pub held : length (old_held ++ bytes) ≤ 8192 → new_held ≡ old_held ++ bytes
+  pub unput : length (old_held ++ bytes) ≤ 8192 → new_puts ≡ old_puts
+
+-- the same of two writers into one sink, whose pieces are told by `puts`
+abbrev pub Takes : {S : Type 0} → (S → Option (List ℕ)) → (S → Option (List (List ℕ))) → (S → ℕ) → PieceWriter S → PieceWriter S → List ℕ → Type 0
+Takes written puts faults old new bytes =
+    (new.out.ghost_name ≡ old.out.ghost_name) × Grew (writing written faults old) (writing written faults new) bytes
+    × Waits old.held new.held (puts old.out.now) (puts new.out.now) bytes
+
+-- whether there is room or not
+abbrev pub Adds : {S : Type 0} → (S → Option (List ℕ)) → (S → ℕ) → PieceWriter S → PieceWriter S → List ℕ → Type 0
+Adds written faults old new bytes =
     (new.out.ghost_name ≡ old.out.ghost_name) × Grew (writing written faults old) (writing written faults new) bytes
 
 abbrev pub Fails : {S : Type 0} → (S → Option (List ℕ)) → (S → ℕ) → PieceWriter S → PieceWriter S → List ℕ → Type 0

@@ -1,10 +1,11 @@
 -- What several pieces add together to what a writer has put and holds.
-use Rattle.std.specs.Prelude.{◌≡◌, ℕ, List, [], ◌++◌, refl}
-use Rattle.std.proofs.Common.{sym, ap, ◌∙◌, append-nil, append_assoc}
-use Rattle.std.proofs.Math.Nat.{le_refl, le_trans}
+use Rattle.std.specs.Prelude.{◌≡◌, ℕ, ◌≤◌, List, [], ◌++◌, length, Option, refl}
+use Rattle.std.proofs.Common.{sym, ap, subst, ◌∙◌, append-nil, append_assoc}
+use Rattle.std.proofs.lemmas.List.{length-append}
+use Rattle.std.proofs.Math.Nat.{le-add_right, le_refl, le_trans}
 use Rattle.tool_io.proofs.AppendLaws.{append_known-nil, append_known-then, AppendsFront-first, AppendsFront-same, AppendsFront-among}
 use Rattle.tool_io.proofs.CountLaws.{Rose-earlier}
-use Rattle.piece_writer.specs.Writing.{Writing, IsSameSink, Grew, Fell}
+use Rattle.piece_writer.specs.Writing.{Writing, IsSameSink, Grew, Fell, Waits}
 
 IsSameSink-then : {old mid new : Writing} → IsSameSink old mid → IsSameSink mid new → IsSameSink old new
 IsSameSink-then one two = record { written = two.written ∙ one.written; faults = two.faults ∙ one.faults }
@@ -54,3 +55,28 @@ Fell-second old mid new first second one fell = record {
   rose = λ sound. Rose-earlier old.faults mid.faults new.faults one.count (fell.rose (one.same ∙ sound));
   silent = λ failed. IsSameSink-then (one.silent failed) (fell.silent (one.same ∙ failed));
 }
+
+pub Waits-nothing : (held : List ℕ) (puts : Option (List (List ℕ))) → Waits held held puts puts []
+Waits-nothing held puts = record { held = λ fits. sym (append-nil held); unput = λ fits. refl }
+
+-- a list that is short with more behind it is short
+short_front : (xs ys : List ℕ) (most : ℕ) → length (xs ++ ys) ≤ most → length xs ≤ most
+short_front xs ys most short =
+    le_trans (le-add_right (length xs) (length ys)) (subst (λ (n : ℕ). n ≤ most) (length-append xs ys) short)
+
+module _ (old_held mid_held new_held : List ℕ) (old_puts mid_puts new_puts : Option (List (List ℕ))) (first second : List ℕ)
+    (one : Waits old_held mid_held old_puts mid_puts first) (two : Waits mid_held new_held mid_puts new_puts second) where
+  first_fits : length (old_held ++ (first ++ second)) ≤ 8192 → length (old_held ++ first) ≤ 8192
+  first_fits fits =
+      short_front (old_held ++ first) second 8192 (subst (λ (bytes : List ℕ). length bytes ≤ 8192) (sym (append_assoc old_held first second)) fits)
+
+  second_fits : length (old_held ++ (first ++ second)) ≤ 8192 → length (mid_held ++ second) ≤ 8192
+  second_fits fits =
+      subst (λ (held : List ℕ). length (held ++ second) ≤ 8192) (sym (one.held (first_fits fits)))
+      (subst (λ (bytes : List ℕ). length bytes ≤ 8192) (sym (append_assoc old_held first second)) fits)
+
+  pub Waits-both : Waits old_held new_held old_puts new_puts (first ++ second)
+  Waits-both = record {
+    held = λ fits. two.held (second_fits fits) ∙ (ap (λ held. held ++ second) (one.held (first_fits fits)) ∙ append_assoc old_held first second);
+    unput = λ fits. two.unput (second_fits fits) ∙ one.unput (first_fits fits);
+  }

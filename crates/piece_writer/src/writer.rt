@@ -1,8 +1,9 @@
 //! A writer that gathers pieces.
 ghost use Rattle.std.specs.Prelude.{◌≡◌, ◌++◌, [], true, false, OnOk, OnErr};
 ghost use Rattle.std.proofs.Common.{◌∙◌, refl};
-ghost use Rattle.piece_writer.specs.Writing.{writing, ended, IsInto, Grew, Fell, Takes, Fails};
-ghost use Rattle.piece_writer.specs.WritingLaws.{Grew-nothing, Grew-both, Fell-first, Fell-second};
+ghost use Rattle.tool_io.specs.Told.{add_told};
+ghost use Rattle.piece_writer.specs.Writing.{writing, ended, IsInto, Grew, Fell, Adds, Takes, Fails};
+ghost use Rattle.piece_writer.specs.WritingLaws.{Grew-nothing, Grew-both, Fell-first, Fell-second, Waits-nothing, Waits-both};
 
 use crate::PieceSink;
 use crate::held::Held;
@@ -23,6 +24,7 @@ impl<'a, S: Sink> PieceWriter<'a, S> {
     pub fn new(out: &'a mut S) -> PieceWriter<'a, S>
         ensures into { IsInto out.entry result }
         ensures fresh { writing S.written S.faults result ≡ ended (S.written out.old) (S.faults out.old) false }
+        ensures unput { S.puts result.out.now ≡ S.puts out.old }
     {
         PieceWriter {
             out,
@@ -34,7 +36,7 @@ impl<'a, S: Sink> PieceWriter<'a, S> {
     // Puts the bytes that are held.
     fn put_held(&mut self) -> Result<(), Failed>
         requires { self.old.failed ≡ false }
-        ensures ok { OnOk result (Takes S.written S.faults self.old self.new []) }
+        ensures ok { OnOk result (Adds S.written S.faults self.old self.new []) }
         ensures empty { OnOk result (self.new.held ≡ []) }
         ensures err { OnErr result (Fails S.written S.faults self.old self.new []) }
     {
@@ -50,7 +52,7 @@ impl<'a, S: Sink> PieceWriter<'a, S> {
     #[cold]
     #[inline(never)]
     fn put_past(&mut self, bytes: &[u8]) -> Result<(), Failed>
-        ensures ok { OnOk result (Takes S.written S.faults self.old self.new bytes.now) }
+        ensures ok { OnOk result (Adds S.written S.faults self.old self.new bytes.now) }
         ensures err { OnErr result (Fails S.written S.faults self.old self.new bytes.now) }
     {
         if self.failed {
@@ -67,7 +69,7 @@ impl<'a, S: Sink> PieceWriter<'a, S> {
     // Holds these bytes, or puts what is held first.
     #[inline(always)]
     fn hold(&mut self, bytes: &[u8]) -> Result<(), Failed>
-        ensures ok { OnOk result (Takes S.written S.faults self.old self.new bytes.now) }
+        ensures ok { OnOk result (Takes S.written S.puts S.faults self.old self.new bytes.now) }
         ensures err { OnErr result (Fails S.written S.faults self.old self.new bytes.now) }
     {
         if bytes.len() <= self.held.room() {
@@ -81,7 +83,7 @@ impl<'a, S: Sink> PieceWriter<'a, S> {
     #[cold]
     #[inline(never)]
     fn hold_each(&mut self, first: &[u8], second: &[u8]) -> Result<(), Failed>
-        ensures ok { OnOk result (Takes S.written S.faults self.old self.new (first.now ++ second.now)) }
+        ensures ok { OnOk result (Takes S.written S.puts S.faults self.old self.new (first.now ++ second.now)) }
         ensures err { OnErr result (Fails S.written S.faults self.old self.new (first.now ++ second.now)) }
     {
         self.hold(first)?;
@@ -92,7 +94,7 @@ impl<'a, S: Sink> PieceWriter<'a, S> {
     fn put_now(&mut self, bytes: &[u8]) -> Result<(), Failed>
         requires sound { self.old.failed ≡ false }
         requires empty { self.old.held ≡ [] }
-        ensures ok { OnOk result (Takes S.written S.faults self.old self.new bytes.now) }
+        ensures ok { OnOk result (Adds S.written S.faults self.old self.new bytes.now) }
         ensures err { OnErr result (Fails S.written S.faults self.old self.new bytes.now) }
     {
         self.failed = true;
@@ -101,10 +103,11 @@ impl<'a, S: Sink> PieceWriter<'a, S> {
         Ok(())
     }
 
-    /// Puts what is held, unless a put failed before.
+    /// Puts what is held, by one call, unless a put failed before.
     pub fn finish(self) -> Result<(), Failed>
         ensures ok { OnOk result (Grew (writing S.written S.faults self.entry) (ended (S.written self.exit.0.now) (S.faults self.exit.0.now) false) []) }
         ensures err { OnErr result (Fell (writing S.written S.faults self.entry) (ended (S.written self.exit.0.now) (S.faults self.exit.0.now) true) []) }
+        ensures once { OnOk result (S.puts self.exit.0.now ≡ add_told (S.puts self.entry.out.now) self.entry.held) }
     {
         let PieceWriter { out, held, failed } = self;
         if failed {
@@ -116,13 +119,13 @@ impl<'a, S: Sink> PieceWriter<'a, S> {
 }
 
 impl<S: Sink> PieceSink for PieceWriter<'_, S> {
-    ghost took = { Takes S.written S.faults };
+    ghost took = { Takes S.written S.puts S.faults };
 
     ghost failed_within = { Fails S.written S.faults };
 
-    ghost took_nothing = { λ now. (refl, Grew-nothing (writing S.written S.faults now)) };
+    ghost took_nothing = { λ now. (refl, Grew-nothing (writing S.written S.faults now), Waits-nothing now.held (S.puts now.out.now)) };
 
-    ghost took_both = { λ old mid new first second one two. (two.0 ∙ one.0, Grew-both _ _ _ first second one.1 two.1) };
+    ghost took_both = { λ old mid new first second one two. (two.0 ∙ one.0, Grew-both _ _ _ first second one.1 two.1, Waits-both _ _ _ _ _ _ first second one.2 two.2) };
 
     ghost failed_in_first = { λ old new first second failed. (failed.0, Fell-first _ _ first second failed.1) };
 

@@ -1,6 +1,6 @@
 use Rattle.std.proofs.Common.{◌∙◌}
 use Rattle.std.proofs.lemmas.Result.{err_from_is_err_and, on_ok_weaker, on_err_weaker}
-use Rattle.piece_writer.specs.WritingLaws.{Grew-both, Fell-first, Fell-second}
+use Rattle.piece_writer.specs.WritingLaws.{Grew-both, Fell-first, Fell-second, Waits-both}
 use Rattle.piece_writer.proofs.writer.PieceWriter.hold_each.Goals as goal
 
 pub returns-in_err-hold-clause-err : goal.returns-in_err-hold-clause-err
@@ -11,7 +11,7 @@ returns-in_err-hold-clause-err g c =
 pub returns-clause-ok : goal.returns-clause-ok
 returns-clause-ok g c =
     let one = c.in_ok-hold.ensures.ok in
-    on_ok_weaker c.hold-2.result (λ two. (two.0 ∙ one.0, Grew-both _ _ _ c.args.first.now c.args.second.now one.1 two.1)) c.hold-2.ensures.ok
+    on_ok_weaker c.hold-2.result (λ two. (two.0 ∙ one.0, Grew-both _ _ _ c.args.first.now c.args.second.now one.1 two.1, Waits-both _ _ _ _ _ _ c.args.first.now c.args.second.now one.2 two.2)) c.hold-2.ensures.ok
 
 pub returns-clause-err : goal.returns-clause-err
 returns-clause-err g c =
