@@ -1,3 +1,4 @@
 mod ExampleOne
 pub mod ExampleTwo
 mod ExampleThree
+mod ExampleFour

@@ -24,23 +24,14 @@ use Rattle.rewriting_forms.specs.Numbered.{named, lines_at, line_at, calls, poin
 use Rattle.rewriting_forms.specs.Liveness.{live_list}
 use Rattle.rewriting_forms.specs.Names.{Name, own, relocated, joined, token, Names, Naming, names_at, names_at_end, naming_of}
 pub use Rattle.ir_ast.specs.Operands.{is_null}
+pub use Rattle.rewriting_forms.specs.Names.{same_name, joined_at}
 
 -- numbers: the place of a name among all values of the final text, arguments first
-abbrev pub same_name : Name → Name → Bool
-same_name (own v) (own w) = v == w
-same_name (relocated b k v) (relocated c j w) = (b == c && k == j) && v == w
-same_name (joined b v) (joined c w) = b == c && v == w
-same_name (token b k) (token c j) = b == c && k == j
-same_name _ _ = false
-
 abbrev pub line_names : Function → List Operand → ℕ → ℕ → List Name
 line_names func table b k =
     (if calls (line_at func b k) then token b k ∷ [] else [])
     ++ (option_map_or (λ x. own x ∷ []) (line_at func b k).to []
     ++ (if calls (line_at func b k) then map (relocated b k) (live_list func table b k) else []))
-
-abbrev pub joined_at : Function → Naming → ℕ → List ℕ
-joined_at func naming b = filter (naming.joins b) (pointers func)
 
 abbrev pub block_names : Function → List Operand → Naming → ℕ → List Name
 block_names func table naming b =
@@ -208,10 +199,22 @@ rewritten_with func table naming = record func { blocks = rewritten_blocks func 
 abbrev pub rewritten : Function → List Operand → Function
 rewritten func table = rewritten_with func table (naming_of func table)
 
+-- a naming for each function of a module, by its number, from the function and its base table
+abbrev pub Choice : Type 0
+Choice = ℕ → Function → List Operand → Naming
+
+abbrev pub rewritten_funcs_by : (ℕ → List Operand) → Choice → ℕ → List Function → List Function
+rewritten_funcs_by tables choose g [] = []
+rewritten_funcs_by tables choose g (func ∷ funcs) =
+    rewritten_with func (tables g) (choose g func (tables g)) ∷ rewritten_funcs_by tables choose (suc g) funcs
+
+abbrev pub rewritten_module_by : ModuleContent → (ℕ → List Operand) → Choice → ModuleContent
+rewritten_module_by content tables choose =
+    record content { funcs = rewritten_funcs_by tables choose 0 content.funcs; form = Rewritten }
+
 -- the rewritten module: a function of the module before liveness and its base tables
 abbrev pub rewritten_funcs : (ℕ → List Operand) → ℕ → List Function → List Function
-rewritten_funcs tables g [] = []
-rewritten_funcs tables g (func ∷ funcs) = rewritten func (tables g) ∷ rewritten_funcs tables (suc g) funcs
+rewritten_funcs tables = rewritten_funcs_by tables (λ g. naming_of)
 
 abbrev pub rewritten_module : ModuleContent → (ℕ → List Operand) → ModuleContent
-rewritten_module content tables = record content { funcs = rewritten_funcs tables 0 content.funcs; form = Rewritten }
+rewritten_module content tables = rewritten_module_by content tables (λ g. naming_of)

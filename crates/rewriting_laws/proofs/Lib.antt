@@ -13,6 +13,9 @@ pub mod ApartLaws
 pub mod NumberLaws
 pub mod LiveLaws
 pub mod LiveExact
+pub mod NameTests
+pub mod RemovalLaws
+pub mod NamingLaws
 pub mod Whole
 pub mod Rewritings
 mod Instance

@@ -1,8 +1,8 @@
 -- The test of liveness answers true exactly where some walk reaches a use before a definition.
-use Rattle.std.proofs.Common.{◌≡◌, ℕ, zero, suc, ◌<◌, ◌≤◌, ◌+◌, Bool, true, false, not, eqb, leb, ltb, List, [], ◌∷◌, length, drop, map, refl, ap, sym, arith, Some, None, Option, slice_get, inl, inr, ◌∙◌, ◌&&◌, ◌||◌, subst}
-use Rattle.std.specs.List.{list_any, position, position_or_len, Contains}
+use Rattle.std.proofs.Common.{◌≡◌, ℕ, zero, suc, ◌≤◌, ◌+◌, Bool, true, false, not, eqb, leb, ltb, List, [], ◌∷◌, length, drop, map, refl, ap, sym, arith, Some, None, Option, slice_get, inl, inr, ◌∙◌, ◌&&◌, subst}
+use Rattle.std.specs.List.{list_any, position_or_len, Contains}
 use Rattle.std.specs.Option.{option_map_or}
-use Rattle.std.proofs.lemmas.Bool.{cases_Bool, cases_eq, eqb-true, eq-eqb, true≢false, false≢true, or_left, or_right, or_cases, and_from, and_parts, leb-true, le-leb, ltb-true, not_from_false}
+use Rattle.std.proofs.lemmas.Bool.{cases_Bool, eqb-true, eq-eqb, false≢true, or_left, or_right, or_cases, and_from, and_parts, leb-true, le-leb, ltb-true, not_from_false}
 use Rattle.std.proofs.lemmas.Option.{slice_get_within}
 use Rattle.sp_ids.specs.declared.ids.BlockId.{BlockId}
 use Rattle.ir_ast.specs.declared.types.Ty.{Ty}

@@ -2,7 +2,7 @@
 use Rattle.std.proofs.Common.{◌≡◌, ℕ, zero, suc, ◌<◌, ◌≤◌, ◌+◌, Bool, true, eqb, if◌then◌else◌, List, [], ◌∷◌, ◌++◌, length, map, refl, ap, sym, arith, Some, None, Option, slice_get, inl, inr, ◌∙◌, ◌&&◌, subst}
 use Rattle.std.specs.List.{flat_map, range_with_len}
 use Rattle.std.specs.Option.{option_map_or}
-use Rattle.std.proofs.lemmas.Bool.{cases_Bool, cases_eq, eqb-true, eq-eqb, false≢true, and_parts}
+use Rattle.std.proofs.lemmas.Bool.{cases_Bool, cases_eq, eqb-true, false≢true, and_parts}
 use Rattle.std.proofs.lemmas.Option.{slice_get_within}
 use Rattle.ir_ast.specs.declared.ops.Operand.{Operand}
 use Rattle.ir_ast.specs.Funcs.{Function}
@@ -10,6 +10,7 @@ use Rattle.object_meaning.specs.Lines.{Line}
 use Rattle.rewriting_forms.specs.Numbered.{among, lines_at, line_at, calls, pointers}
 use Rattle.rewriting_forms.specs.Liveness.{live_list}
 use Rattle.rewriting_forms.specs.Names.{Name, own, relocated, joined, token, Naming}
+use Rattle.rewriting_laws.proofs.NameTests.{same_itself}
 use Rattle.rewriting_forms.specs.Rewritten.{same_name, behind_all, place_in, line_names, joined_at, block_names, names_of}
 use Rattle.rewriting_laws.specs.Laws.{owner_of, IsNumbering}
 use Rattle.rewriting_laws.proofs.NameLemmas.{among_cons, filter_among, line_is}
@@ -53,18 +54,12 @@ place_owner (x ∷ names) name = elim (cases_Bool (same_name x name)) [
   | inr other ↦ rw other (place_owner names name)
 ]
 
-same_self : (name : Name) → same_name name name ≡ true
-same_self (own v) = eq-eqb v v refl
-same_self (relocated b k v) = rw (eq-eqb b b refl, eq-eqb k k refl, eq-eqb v v refl) refl
-same_self (joined b v) = rw (eq-eqb b b refl, eq-eqb v v refl) refl
-same_self (token b k) = rw (eq-eqb b b refl, eq-eqb k k refl) refl
-
 -- a name of the list has its number below the length
 place_within : (names : List Name) (i : ℕ) (name : Name) → slice_get names i ≡ Some name → place_in names name < length names
 place_within [] i name is = absurd (cc)
 place_within (x ∷ names) zero name is =
     let e : x ≡ name = cc in
-    rw (ap (same_name x) (sym e) ∙ same_self x) (omega arith)
+    rw (ap (same_name x) (sym e) ∙ same_itself x) (omega arith)
 place_within (x ∷ names) (suc i) name is = elim (cases_Bool (same_name x name)) [
   | inl here ↦ rw here (omega arith)
   | inr other ↦ let rest = place_within names i name is in rw other (omega arith)

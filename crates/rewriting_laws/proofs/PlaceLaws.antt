@@ -4,7 +4,6 @@ use Rattle.std.specs.Prelude.{slice_index}
 use Rattle.std.specs.List.{flat_map, range_with_len}
 use Rattle.std.specs.Option.{option_map, option_map_or}
 use Rattle.std.proofs.lemmas.List.{length-append, length-map}
-use Rattle.std.proofs.lemmas.Bool.{eq-eqb}
 use Rattle.std.proofs.lemmas.List.FromFn.{length-range_with_len}
 use Rattle.ir_ast.specs.declared.ops.Operand.{Operand}
 use Rattle.ir_ast.specs.declared.ops.Op.{Op}
@@ -15,6 +14,7 @@ use Rattle.object_meaning.specs.TargetRuns.{plain_lines}
 use Rattle.rewriting_forms.specs.Numbered.{lines_at, line_at, is_call, calls}
 use Rattle.rewriting_forms.specs.Liveness.{live_list}
 use Rattle.rewriting_forms.specs.Names.{Name, own, relocated, joined, token, Naming}
+use Rattle.rewriting_laws.proofs.NameTests.{same_itself}
 use Rattle.rewriting_forms.specs.Rewritten.{Piece, piece_inst, same_name, place_in, line_names, joined_at, block_names, names_of, inserted_phi, statepoint, result_of, relocate_of, group, plain as plain_piece, expanded_by, expanded, pieces_of, spelled, rewritten_blocks, rewritten_with}
 use Rattle.rewriting_laws.specs.Related.{piece_line}
 use Rattle.rewriting_laws.proofs.NameLemmas.{at_rest, line_is, is_one, is_none, call_or_not}
@@ -69,18 +69,12 @@ pieces_as_lines text number from (piece ∷ pieces) rising =
 abbrev pub Apart : List Name → Type 0
 Apart names = (i j : ℕ) (one other : Name) → i < j → slice_get names i ≡ Some one → slice_get names j ≡ Some other → same_name one other ≡ false
 
-same_self : (name : Name) → same_name name name ≡ true
-same_self (own v) = eq-eqb v v refl
-same_self (relocated b k v) = rw (eq-eqb b b refl, eq-eqb k k refl, eq-eqb v v refl) refl
-same_self (joined b v) = rw (eq-eqb b b refl, eq-eqb v v refl) refl
-same_self (token b k) = rw (eq-eqb b b refl, eq-eqb k k refl) refl
-
 -- the place of the i-th name is i
 pub place_is : (names : List Name) → Apart names → (i : ℕ) (name : Name) → slice_get names i ≡ Some name → place_in names name ≡ i
 place_is [] apart i name is = absurd (cc)
 place_is (x ∷ names) apart zero name is =
     let e : x ≡ name = cc in
-    ap (λ (t : Bool). if t then 0 else suc (place_in names name)) (ap (same_name x) (sym e) ∙ same_self x)
+    ap (λ (t : Bool). if t then 0 else suc (place_in names name)) (ap (same_name x) (sym e) ∙ same_itself x)
 place_is (x ∷ names) apart (suc i) name is =
     ap (λ (t : Bool). if t then 0 else suc (place_in names name)) (apart 0 (suc i) x name (omega arith) refl is)
     ∙ ap suc (place_is names (λ j k one other below one_is other_is. apart (suc j) (suc k) one other (omega arith) one_is other_is) i name is)

@@ -18,7 +18,7 @@ use Rattle.object_meaning.specs.TargetRuns.{plain_lines}
 use Rattle.object_meaning.specs.Lines.{Line, registers_of}
 use Rattle.rewriting_forms.specs.Numbered.{among, lines_at, line_at, gives, calls, pointers, preds}
 use Rattle.rewriting_forms.specs.Liveness.{is_live, is_live_after, live_list, live_table}
-use Rattle.rewriting_forms.specs.Names.{Name, own, relocated, joined, Names, after_line, names_from, names_at_end, listed, stands_in_list, is_many, joins_of, arriving, front_within, naming_of}
+use Rattle.rewriting_forms.specs.Names.{Name, own, relocated, joined, Names, after_line, names_from, names_at_end, listed, stands_in_list, is_many, joins_of, arriving, front_within, full_naming}
 use Rattle.rewriting_laws.specs.Laws.{Edge, Reached, at_first, over, IsReached, owner_of, Fits}
 use Rattle.rewriting_laws.proofs.NameLemmas.{among_cons, among_here, among_filter, names_value}
 
@@ -189,11 +189,11 @@ module _ (func : Function) (table : List Operand) where
 
   -- where all blocks are reached the walk backwards goes as far as it must
   pub front_is : IsReached func → (b v : ℕ) → Reached func b
-      → (naming_of func table).front b v ≡ (if joins_of func table b v then joined b v else arriving (preds func b) (names_at_end func table (naming_of func table)) v)
+      → (full_naming func table).front b v ≡ (if joins_of func table b v then joined b v else arriving (preds func b) (names_at_end func table (full_naming func table)) v)
   front_is graph b v reached = ap (λ (name : Name). if joins_of func table b v then joined b v else name) (far_enough (preds func b) refl)
     where
       far_enough : (ps : List ℕ) → preds func b ≡ ps
-          → arriving ps (ends_within (length func.blocks)) v ≡ arriving ps (names_at_end func table (naming_of func table)) v
+          → arriving ps (ends_within (length func.blocks)) v ≡ arriving ps (names_at_end func table (full_naming func table)) v
       far_enough [] is = refl
       far_enough (p ∷ []) is =
           let chain = chain_of func graph b reached in
@@ -281,7 +281,7 @@ module _ (func : Function) (table : List Operand) where
 
   -- an edge keeps the name of a live value without an inserted phi
   version_edge : IsReached func → (from to v : ℕ) → Edge func from to → live_table func table to 0 v ≡ true → joins_of func table to v ≡ false
-      → (naming_of func table).front to v ≡ names_at_end func table (naming_of func table) from v
+      → (full_naming func table).front to v ≡ names_at_end func table (full_naming func table) from v
   version_edge graph from to v edge alive apart = elim (cases_Bool (stands_in_list func table v)) [
     | inr nowhere ↦
         own_front (suc (length func.blocks)) to v nowhere
@@ -338,14 +338,14 @@ module _ (func : Function) (table : List Operand) where
   front_value zero b v = elim (cases_Bool (joins_of func table b v)) [ inl is ↦ ap (λ (t : Bool). owner_of (if t then joined b v else own v)) is | inr none ↦ ap (λ (t : Bool). owner_of (if t then joined b v else own v)) none ]
   front_value (suc bound) b v =
       let before = arriving_value (preds func b) (ends_within bound) v (λ p.
-      names_value func table (naming_of func table) p (front_within func table (joins_of func table) bound p) v (length (lines_at func p)) (front_value bound p v)) in
+      names_value func table (full_naming func table) p (front_within func table (joins_of func table) bound p) v (length (lines_at func p)) (front_value bound p v)) in
       elim (cases_Bool (joins_of func table b v)) [
         | inl is ↦ ap (λ (t : Bool). owner_of (if t then joined b v else arriving (preds func b) (ends_within bound) v)) is
         | inr none ↦ ap (λ (t : Bool). owner_of (if t then joined b v else arriving (preds func b) (ends_within bound) v)) none ∙ before
       ]
 
   -- the versions fit
-  pub versions_fit : IsReached func → Fits func table (naming_of func table) (live_table func table)
+  pub versions_fit : IsReached func → Fits func table (full_naming func table) (live_table func table)
   versions_fit graph = record {
     own_value = front_value (suc (length func.blocks));
     at_entry = λ v alive.

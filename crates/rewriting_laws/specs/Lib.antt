@@ -1,3 +1,4 @@
 pub mod Laws
 pub mod Related
 pub mod Statements
+pub mod Removals
