@@ -4,3 +4,5 @@ pub mod RemovalLaws
 pub mod OnlyLemmas
 pub mod BecomesLaws
 pub mod RenamingLaws
+pub mod ForestLemmas
+pub mod LookLemmas

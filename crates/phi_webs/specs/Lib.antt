@@ -1,3 +1,5 @@
 pub mod Webs
 pub mod Becomes
 pub mod Statements
+pub mod Forests
+pub mod Settled

@@ -1,0 +1,7 @@
+use Rattle.std.proofs.Common.{◌≡◌, ℕ}
+use Rattle.phi_webs.specs.Forests.{Leads}
+use Rattle.phi_webs.proofs.ForestLemmas.{Shortens}
+use Rattle.phi_webs.proofs.forest.shorten.Given as goal
+
+abbrev pub invariant-loop-step : goal.invariant-loop-step
+invariant-loop-step l = Shortens l.fn.ups.items l.ups.items l.here l.end
