@@ -25,19 +25,19 @@ comes_within : {ups : List ℕ} {now : ℕ → ℕ} {last : ℕ} (leads : Leads 
 comes_within {ups} {now} {last} leads zero n left = absurd (let most : leads.time n ≤ last = leads.in_time n in omega arith)
 comes_within {ups} {now} {last} leads (suc bound) n left = elim (number_or_not (up_of ups n) n) [
   | inl own ↦
-    (let is : now n ≡ n = leads.ends n own in
-    record { stays = subst (λ (m : ℕ). up_of ups m ≡ m) (sym is) own; late = inl (sym is) })
+      (let is : now n ≡ n = leads.ends n own in
+      record { stays = subst (λ (m : ℕ). up_of ups m ≡ m) (sym is) own; late = inl (sym is) })
   | inr goes ↦
-    (let next : leads.time n < leads.time (up_of ups n) = leads.later n goes in
-    let comes : Comes leads (up_of ups n) = comes_within leads bound (up_of ups n) (omega arith) in
-    let follows : now (up_of ups n) ≡ now n = leads.follows n in
-    record {
-      stays = subst (λ (m : ℕ). up_of ups m ≡ m) follows comes.stays;
-      late = elim comes.late [
-        | inl here ↦ inr (subst (λ (m : ℕ). leads.time n < leads.time m) (here ∙ follows) next)
-        | inr later ↦ inr (subst (λ (m : ℕ). leads.time n < leads.time m) follows (omega arith))
-      ];
-    })
+      (let next : leads.time n < leads.time (up_of ups n) = leads.later n goes in
+      let comes : Comes leads (up_of ups n) = comes_within leads bound (up_of ups n) (omega arith) in
+      let follows : now (up_of ups n) ≡ now n = leads.follows n in
+      record {
+        stays = subst (λ (m : ℕ). up_of ups m ≡ m) follows comes.stays;
+        late = elim comes.late [
+          | inl here ↦ inr (subst (λ (m : ℕ). leads.time n < leads.time m) (here ∙ follows) next)
+          | inr later ↦ inr (subst (λ (m : ℕ). leads.time n < leads.time m) follows (omega arith))
+        ];
+      })
 ]
 
 pub comes : {ups : List ℕ} {now : ℕ → ℕ} {last : ℕ} (leads : Leads ups now last) (n : ℕ) → Comes leads n
@@ -111,8 +111,8 @@ one_more web ups now last phi value leads trivial below few = record {
   ends = λ n own. elim (number_or_not n phi.name) [
     | inl at ↦ absurd (trivial.other (sym (up_at n at) ∙ own ∙ at))
     | inr other ↦
-      (let before : now n ≡ n = leads.ends n (sym (up_beside ups phi.name value n other) ∙ own) in
-      ap (λ m. replaced same phi.name value m) before ∙ replaced_beside same tells_numbers phi.name value n other)
+        (let before : now n ≡ n = leads.ends n (sym (up_beside ups phi.name value n other) ∙ own) in
+        ap (λ m. replaced same phi.name value m) before ∙ replaced_beside same tells_numbers phi.name value n other)
   ];
   later = λ n moves. elim (number_or_not n phi.name) [
     | inl at ↦ subst (λ (m : ℕ). time n < time m) (sym (up_at n at))
@@ -195,10 +195,10 @@ pub climbs_more : (ups : List ℕ) (name here next steps : ℕ) → Climbs ups n
     → Climbs ups name next (steps + 1)
 climbs_more ups name here next steps climbs is goes = record {
   each = λ now last leads.
-    let before : (now here ≡ now name) × (steps ≤ leads.time here) = climbs.each now last leads in
-    let less : leads.time here < leads.time (up_of ups here) = leads.later here (λ h. goes (is ∙ h)) in
-    let time_is : leads.time next ≡ leads.time (up_of ups here) = ap leads.time is in
-    (ap now is ∙ leads.follows here ∙ before.0, omega (arith, before.1));
+      let before : (now here ≡ now name) × (steps ≤ leads.time here) = climbs.each now last leads in
+      let less : leads.time here < leads.time (up_of ups here) = leads.later here (λ h. goes (is ∙ h)) in
+      let time_is : leads.time next ≡ leads.time (up_of ups here) = ap leads.time is in
+      (ap now is ∙ leads.follows here ∙ before.0, omega (arith, before.1));
 }
 
 pub climbed_up : (ups : List ℕ) (name here next steps : ℕ) → Climbs ups name here steps → next ≡ up_of ups here → next ≡ here
@@ -225,10 +225,11 @@ pub shortens_more : (old new newer : List ℕ) (here end next : ℕ) → Shorten
 shortens_more old new newer here end next shortens is goes put = record {
   len = ap length put ∙ length-set new here end ∙ shortens.len;
   each = λ now last leads.
-    let before : Leads new now last × (now here ≡ end) = shortens.each now last leads in
-    (subst (λ (ups : List ℕ). Leads ups now last) (sym put)
-      (shortened new now last here end before.0 before.1 (λ h. goes (is ∙ h))),
-      ap now is ∙ before.0.follows here ∙ before.1);
+      let before : Leads new now last × (now here ≡ end) = shortens.each now last leads in (
+        subst (λ (ups : List ℕ). Leads ups now last) (sym put)
+            (shortened new now last here end before.0 before.1 (λ h. goes (is ∙ h))),
+        ap now is ∙ before.0.follows here ∙ before.1,
+      );
 }
 
 pub shortens_ends : (old new : List ℕ) (here end : ℕ) → Shortens old new here end → KeepsEnds old new

@@ -115,9 +115,12 @@ pub looks_itself : (old new newer : List ℕ) (phi : Phi ℕ) (passed more : Lis
 looks_itself old new newer phi passed more o end found looks keeps is itself next = record {
   len = keeps.len ∙ looks.len;
   each = λ now last leads.
-    let before : Leads new now last × (now phi.name ≡ phi.name) × Gathered now phi.name passed found = looks.each now last leads in
-    (keeps.ends now last before.0, before.1, subst (λ (xs : List ℕ). Gathered now phi.name xs found) (sym next)
-      (gathered_itself now phi.name passed o found before.2 (sym (is now last before.0) ∙ itself)));
+      let before : Leads new now last × (now phi.name ≡ phi.name) × Gathered now phi.name passed found = looks.each now last leads in (
+        keeps.ends now last before.0,
+        before.1,
+        subst (λ (xs : List ℕ). Gathered now phi.name xs found) (sym next)
+            (gathered_itself now phi.name passed o found before.2 (sym (is now last before.0) ∙ itself)),
+      );
 }
 
 pub looks_first : (old new newer : List ℕ) (phi : Phi ℕ) (passed more : List ℕ) (o end : ℕ)
@@ -126,9 +129,12 @@ pub looks_first : (old new newer : List ℕ) (phi : Phi ℕ) (passed more : List
 looks_first old new newer phi passed more o end looks keeps is other next = record {
   len = keeps.len ∙ looks.len;
   each = λ now last leads.
-    let before : Leads new now last × (now phi.name ≡ phi.name) × Gathered now phi.name passed None = looks.each now last leads in
-    (keeps.ends now last before.0, before.1, subst (λ (xs : List ℕ). Gathered now phi.name xs (Some end)) (sym next)
-      (gathered_first now phi.name passed o end before.2 (is now last before.0) other));
+      let before : Leads new now last × (now phi.name ≡ phi.name) × Gathered now phi.name passed None = looks.each now last leads in (
+        keeps.ends now last before.0,
+        before.1,
+        subst (λ (xs : List ℕ). Gathered now phi.name xs (Some end)) (sym next)
+            (gathered_first now phi.name passed o end before.2 (is now last before.0) other),
+      );
 }
 
 pub looks_again : (old new newer : List ℕ) (phi : Phi ℕ) (passed more : List ℕ) (o end value : ℕ)
@@ -137,9 +143,12 @@ pub looks_again : (old new newer : List ℕ) (phi : Phi ℕ) (passed more : List
 looks_again old new newer phi passed more o end value looks keeps is same next = record {
   len = keeps.len ∙ looks.len;
   each = λ now last leads.
-    let before : Leads new now last × (now phi.name ≡ phi.name) × Gathered now phi.name passed (Some value) = looks.each now last leads in
-    (keeps.ends now last before.0, before.1, subst (λ (xs : List ℕ). Gathered now phi.name xs (Some value)) (sym next)
-      (gathered_again now phi.name passed o value before.2 (sym (is now last before.0) ∙ sym same)));
+      let before : Leads new now last × (now phi.name ≡ phi.name) × Gathered now phi.name passed (Some value) = looks.each now last leads in (
+        keeps.ends now last before.0,
+        before.1,
+        subst (λ (xs : List ℕ). Gathered now phi.name xs (Some value)) (sym next)
+            (gathered_again now phi.name passed o value before.2 (sym (is now last before.0) ∙ sym same)),
+      );
 }
 
 pub looks_more : (old new newer : List ℕ) (phi : Phi ℕ) (passed more : List ℕ) (o end : ℕ) (found next : Option ℕ)
@@ -260,7 +269,7 @@ under_way_more web old mid put new steps gone way can keeps written stays few =
       last = suc way.last;
       removal = one way.now phi gone.value way.removal trivial;
       leads = stays.ends (λ n. replaced same phi.name gone.value (way.now n)) (suc way.last)
-        (subst (λ (ups : List ℕ). Leads ups (λ n. replaced same phi.name gone.value (way.now n)) (suc way.last)) put_is
+          (subst (λ (ups : List ℕ). Leads ups (λ n. replaced same phi.name gone.value (way.now n)) (suc way.last)) put_is
           (one_more web mid way.now way.last phi gone.value (keeps.ends way.now way.last way.leads) trivial (room phi can.stands) (omega arith)));
       within = omega arith;
       room = λ p stands. subst (λ (n : ℕ). p.name < n) (sym (stays.len ∙ len)) (room p stands);
@@ -289,21 +298,21 @@ ends_more old new newer ends more place end so_far keeps is pushed = record {
   keeps = keeps_both old new newer so_far.keeps keeps;
   len = ap length pushed ∙ length-append ends (end ∷ []) ∙ ap (λ n. n + 1) so_far.len;
   each = λ now last leads k below.
-    let leads_new : Leads new now last = so_far.keeps.ends now last leads in
-    ap (λ (xs : List ℕ). slice_index_or xs k k) pushed ∙ at now last leads leads_new k below;
+      let leads_new : Leads new now last = so_far.keeps.ends now last leads in
+      ap (λ (xs : List ℕ). slice_index_or xs k k) pushed ∙ at now last leads leads_new k below;
 }
   where
     at : (now : ℕ → ℕ) (last : ℕ) → Leads old now last → Leads new now last → (k : ℕ) → k < place + 1
         → slice_index_or (ends ++ end ∷ []) k k ≡ now k
     at now last leads leads_new k below = elim (number_or_not k place) [
       | inl here ↦
-        (let at_end : slice_index_or (ends ++ end ∷ []) (length ends) k ≡ end = get_or-append_length ends end k in
-        ap (λ n. slice_index_or (ends ++ end ∷ []) n k) (here ∙ sym so_far.len) ∙ at_end ∙ is now last leads_new ∙ leads_new.follows place
-        ∙ ap now (sym here))
+          (let at_end : slice_index_or (ends ++ end ∷ []) (length ends) k ≡ end = get_or-append_length ends end k in
+          ap (λ n. slice_index_or (ends ++ end ∷ []) n k) (here ∙ sym so_far.len) ∙ at_end ∙ is now last leads_new ∙ leads_new.follows place
+          ∙ ap now (sym here))
       | inr before ↦
-        (let len : length ends ≡ place = so_far.len in
-        let within : k < length ends = omega arith in
-        get_or_append_left ends (end ∷ []) k k within ∙ so_far.each now last leads k (omega arith))
+          (let len : length ends ≡ place = so_far.len in
+          let within : k < length ends = omega arith in
+          get_or_append_left ends (end ∷ []) k k within ∙ so_far.each now last leads k (omega arith))
     ]
 
 pub ends_all : (old new ends : List ℕ) (place : ℕ) → EndsSoFar old new ends place → length old ≤ place
@@ -311,8 +320,8 @@ pub ends_all : (old new ends : List ℕ) (place : ℕ) → EndsSoFar old new end
 ends_all old new ends place so_far whole now last leads n = elim (below_or_not n place) [
   | inl below ↦ so_far.each now last leads n below
   | inr past ↦
-    (let len : length ends ≡ place = so_far.len in
-    get_or_past ends n n (omega arith) ∙ sym (leads.ends n (get_or_past old n n (omega arith))))
+      (let len : length ends ≡ place = so_far.len in
+      get_or_past ends n n (omega arith) ∙ sym (leads.ends n (get_or_past old n n (omega arith))))
 ]
 
 pub settled_if_none : (web : List (Phi ℕ)) (ups mid ends : List ℕ) (steps : ℕ) → IsUnderWay web ups steps → NoneCanGo ups web
@@ -328,7 +337,7 @@ pub settled_becomes : (web : List (Phi ℕ)) (ends : List ℕ) → IsSettled web
 settled_becomes web ends settled once rooted n =
     settled.at n
     ∙ order_is_free same tells_numbers web once rooted settled.now (becomes same web) settled.removal settled.minimal
-      (becomes_is_removal same tells_numbers web) (becomes_is_minimal same tells_numbers web) n
+    (becomes_is_removal same tells_numbers web) (becomes_is_minimal same tells_numbers web) n
 
 -- ---- places of lists
 

@@ -8,6 +8,9 @@ mod rows;
 mod search;
 mod settled;
 
-pub use laws::{absorbs, becomes_the_end, kept_are_open, order_is_free, removed_are_solved, renaming_commutes, shared_is_kept, stays};
+pub use laws::{
+    absorbs, becomes_the_end, kept_are_open, order_is_free, removed_are_solved, renaming_commutes,
+    shared_is_kept, stays,
+};
 pub use rows::PhiRow;
 pub use settled::settle;

@@ -57,8 +57,9 @@ fn own_names(alloc: Global, phis: &[PhiRow<'_>]) -> Result<Vec<u32>, AllocError>
     ensures room { IfOk result (λ ups. HasRoom ups.items (web_of phis.now)) }
 {
     let mut ups = Vec::new(alloc);
-    for name in 0..=greatest(phis) {
-        ups.push(name)?;
+    let last = greatest(phis);
+    for name in 0..u64::from(last) + 1 {
+        ups.push(name as u32)?;
     }
     Ok(ups)
 }

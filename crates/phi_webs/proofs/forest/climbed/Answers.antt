@@ -9,7 +9,7 @@ returns-then-next-end c =
 pub loop-step-preserved : goal.loop-step-preserved
 loop-step-preserved c =
     climbs_more c.args.ups.now c.args.name c.loop-step.end c.up-next.result c.loop-step._step c.loop-step.invariant c.up-next.ensures
-      c.if-next-end.false
+    c.if-next-end.false
 
 pub returns : goal.returns
 returns c = climbs_ends c.args.ups.now c.args.name c.loop-step.end c.loop-step._step c.loop-step.invariant (omega arith)
