@@ -2,7 +2,7 @@ pub mod ListLemmas
 pub mod EdgeLemmas
 pub mod PathLemmas
 pub mod SearchLemmas
-pub mod SpanLemmas
+pub mod MissedLemmas
 pub mod TextLemmas
 pub mod HomeLemmas
 pub mod AskedLemmas

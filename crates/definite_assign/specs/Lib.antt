@@ -3,6 +3,5 @@ pub mod Homes
 pub mod Asked
 pub mod FarUses
 pub mod Missed
-pub mod Spans
 pub mod Tiny
 pub mod Straight

@@ -1,3 +1,5 @@
+//! Where the result of each instruction stands.
+
 ghost use Rattle.std.specs.Prelude.{◌≡◌, ◌+◌, ◌<◌, ◌^◌, Some, length, IfOk, slice_get};
 ghost use Rattle.ir_ast.specs.Funcs.{instructions_of, IsSmall};
 ghost use Rattle.ir_cfg.specs.DefiniteUses.{Stands, text_place};

@@ -1,3 +1,5 @@
+//! The short way for a function of one block.
+
 ghost use Rattle.std.specs.Prelude.{◌≡◌, ◌+◌, ◌<◌, ◌^◌, true, length, IsTrue, cond, is_some};
 ghost use Rattle.std.specs.List.{All};
 ghost use Rattle.ir_cfg.specs.DefiniteUses.{UsesAreDefinite};

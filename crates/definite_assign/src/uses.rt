@@ -1,3 +1,5 @@
+//! The uses that only paths can show to be definite.
+
 ghost use Rattle.std.specs.Prelude.{◌≡◌, ◌+◌, ◌<◌, ◌^◌, ◌++◌, Some, length, map, IfOk, slice_get};
 ghost use Rattle.std.specs.List.{flat_map};
 ghost use Rattle.ir_ast.specs.Funcs.{instructions_of, IsSmall};
