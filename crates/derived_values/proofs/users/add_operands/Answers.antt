@@ -1,6 +1,6 @@
 use Rattle.std.specs.Prelude.{map}
-use Rattle.body_tables.proofs.UserLemmas.{adds_none, adds_operand}
-use Rattle.body_tables.proofs.derivation.add_operands.Goals as goal
+use Rattle.derived_values.proofs.UserLemmas.{adds_none, adds_operand}
+use Rattle.derived_values.proofs.users.add_operands.Goals as goal
 
 pub loop-operand-init : goal.loop-operand-init
 loop-operand-init c = adds_none c.args.user (map (λ row. row.items) c.args.users.now.items)

@@ -1,6 +1,6 @@
 use Rattle.std.specs.Prelude.{map}
-use Rattle.body_tables.proofs.UserLemmas.{adds_none, adds_entry}
-use Rattle.body_tables.proofs.derivation.add_bundle.Goals as goal
+use Rattle.derived_values.proofs.UserLemmas.{adds_none, adds_entry}
+use Rattle.derived_values.proofs.users.add_bundle.Goals as goal
 
 pub loop-entry-init : goal.loop-entry-init
 loop-entry-init c = adds_none c.args.user (map (λ row. row.items) c.args.users.now.items)

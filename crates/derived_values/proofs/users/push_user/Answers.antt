@@ -2,7 +2,7 @@ use Rattle.std.proofs.Common.{◌≡◌, ◌∙◌, ◌++◌, ap, sym, [], ◌�
 use Rattle.std.specs.Prelude.{map}
 use Rattle.std.proofs.lemmas.List.{get_or-map}
 use Rattle.edge_rows.proofs.Rows.{set-map}
-use Rattle.body_tables.proofs.derivation.push_user.Goals as goal
+use Rattle.derived_values.proofs.users.push_user.Goals as goal
 
 pub returns : goal.returns
 returns c =

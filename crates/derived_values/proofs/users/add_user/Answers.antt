@@ -1,8 +1,8 @@
 use Rattle.std.proofs.Common.{arith}
 use Rattle.std.specs.Prelude.{map}
 use Rattle.std.proofs.lemmas.List.{length-map}
-use Rattle.body_tables.proofs.UserLemmas.{adds_one, adds_past}
-use Rattle.body_tables.proofs.derivation.add_user.Goals as goal
+use Rattle.derived_values.proofs.UserLemmas.{adds_one, adds_past}
+use Rattle.derived_values.proofs.users.add_user.Goals as goal
 
 pub returns-in_ok-push_user : goal.returns-in_ok-push_user
 returns-in_ok-push_user c =

@@ -1,0 +1,3 @@
+pub mod Givens
+pub mod Deriveds
+pub mod Users
