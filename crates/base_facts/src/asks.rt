@@ -1,3 +1,5 @@
+//! Facts that are asked of a function, each with its answer.
+
 ghost use Rattle.std.specs.Prelude.{◌≡◌, ◌<◌, false, Some, length, map, IfOk, slice_get};
 ghost use Rattle.std.specs.List.{All, AllZip};
 ghost use Rattle.ir_ast.specs.Formed.{IsFormed};

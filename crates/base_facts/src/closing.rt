@@ -1,3 +1,5 @@
+//! From the facts that are asked to all that these rest on.
+
 ghost use Rattle.std.specs.Prelude.{◌≡◌, ◌<◌, true, length, IfOk, slice_get};
 ghost use Rattle.ir_cfg.specs.Graphs.{graph_of, Edge};
 ghost use Rattle.object_meaning.specs.Jumps.{phi_count};

@@ -1,3 +1,5 @@
+//! What a fact at a block's front asks at the end of a predecessor.
+
 ghost use Rattle.std.specs.Prelude.{◌≡◌, ◌<◌, length};
 ghost use Rattle.pair_facts.specs.Lines.{lines_at, phis_in};
 ghost use Rattle.pair_facts.specs.Pairs.{at_entry, null_pairs, is_pointer_argument, value_along, along, base_along};

@@ -1,3 +1,5 @@
+//! A fact: a pointer, a base, and the place before which they are a pair.
+
 ghost use Rattle.std.specs.Prelude.{◌≡◌};
 ghost use Rattle.base_facts.specs.Facts.{pointer_of, wanted_of, fact_at};
 

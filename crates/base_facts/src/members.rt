@@ -1,3 +1,5 @@
+//! The pairs that the line of a statepoint group gives, and reads of its operands.
+
 ghost use Rattle.std.specs.Prelude.{◌≡◌, ◌<◌, Some, length, drop, slice_get};
 ghost use Rattle.ir_ast.specs.Types.{is_pointer};
 ghost use Rattle.ir_ast.specs.Faults.GroupShape.{entries_of};

@@ -1,3 +1,5 @@
+//! The facts that fail, spread to all that rest on them.
+
 ghost use Rattle.std.specs.Prelude.{IfOk, map};
 ghost use Rattle.graph_search.specs.Edges.{AreInside};
 ghost use Rattle.graph_search.specs.Paths.{MarksReached};

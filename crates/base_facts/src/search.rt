@@ -1,3 +1,5 @@
+//! The facts that were asked, their numbers, and who asked them.
+
 ghost use Rattle.std.specs.Prelude.{◌≡◌, ◌<◌, [], false, length, IfOk};
 ghost use Rattle.object_meaning.specs.Frames.{is_member};
 ghost use Rattle.pair_facts.specs.Lines.{lines_at, line_in};

@@ -1,3 +1,5 @@
+//! A fact settled within its block, or handed on to its front.
+
 ghost use Rattle.std.specs.Prelude.{◌≡◌, ◌<◌, false, Some, length};
 ghost use Rattle.object_meaning.specs.Frames.{is_member};
 ghost use Rattle.pair_facts.specs.Lines.{lines_at, line_in, head_at};

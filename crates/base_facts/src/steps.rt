@@ -1,3 +1,5 @@
+//! What the line that gives a pointer says of its base.
+
 ghost use Rattle.std.specs.Prelude.{◌≡◌, ◌<◌, ◌==◌, ◌&&◌, length};
 ghost use Rattle.pair_facts.specs.Lines.{lines_at, line_in, line_before, same_operand};
 ghost use Rattle.pair_facts.specs.Pairs.{is_named, is_base_named, own_pairs};

@@ -1,3 +1,5 @@
+//! Functions and modules with the base of each pointer, and the lines that carry it.
+
 ghost use Rattle.std.specs.Prelude.{◌≡◌, ◌+◌, ◌<◌, ◌^◌, length, map, IfOk, OnOk};
 ghost use Rattle.std.specs.List.{All, list_all};
 ghost use Rattle.ir_ast.specs.Blocks.{EndsAtTerminator};

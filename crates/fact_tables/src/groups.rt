@@ -1,3 +1,5 @@
+//! What a statepoint group keeps of the pairs before it.
+
 ghost use Rattle.std.specs.Prelude.{◌≡◌, ◌<◌, ◌+◌, suc, [], Some, drop, length, IfOk, slice_get};
 ghost use Rattle.ir_ast.specs.Faults.GroupShape.{is_statepoint};
 ghost use Rattle.object_meaning.specs.Frames.{group_length};

@@ -1,3 +1,5 @@
+//! The block and the place that give each value.
+
 ghost use Rattle.std.specs.Prelude.{◌≡◌, ◌+◌, Some, None, length, replicate, IfOk, slice_get};
 ghost use Rattle.object_meaning.specs.Lines.{insts_in};
 ghost use Rattle.fact_tables.specs.Homes.{KnowsHomes, home_in};

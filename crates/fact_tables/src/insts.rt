@@ -1,3 +1,5 @@
+//! The lines of a function by their places, and tests of their operators.
+
 ghost use Rattle.std.specs.Prelude.{◌≡◌, ◌<◌, length, slice_get};
 ghost use Rattle.ir_ast.specs.Faults.GroupShape.{is_statepoint};
 ghost use Rattle.object_meaning.specs.Frames.{index_in, is_member};

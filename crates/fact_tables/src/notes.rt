@@ -1,3 +1,5 @@
+//! Per block: its front, its statepoints and the groups of its lines.
+
 ghost use Rattle.std.specs.Prelude.{◌≡◌, ◌<◌, ◌^◌, Some, if◌then◌else◌, suc, length, IfOk, slice_get};
 ghost use Rattle.std.specs.List.{prefix_len};
 ghost use Rattle.ir_ast.specs.Faults.GroupShape.{is_statepoint};

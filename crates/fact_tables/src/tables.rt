@@ -1,3 +1,5 @@
+//! The tables of a function, and what they are asked.
+
 ghost use Rattle.std.specs.Prelude.{◌≡◌, ◌<◌, length, IfOk};
 ghost use Rattle.object_meaning.specs.Jumps.{phi_count};
 ghost use Rattle.pair_facts.specs.Lines.{lines_at, line_in, head_at};

@@ -1,3 +1,5 @@
+//! The blocks at whose end a value is live, by a search against the edges.
+
 ghost use Rattle.std.specs.Prelude.{◌≡◌, ◌<◌, ◌≤◌, ◌+◌, ◌==◌, ◌&&◌, ◌^◌, ◌++◌, [], ◌∷◌, ℕ, if◌then◌else◌, length, map, filter, replicate, IfOk, Some, slice_get, slice_index_or, true, false};
 ghost use Rattle.std.specs.List.{All};
 ghost use Rattle.ir_ast.specs.Formed.{IsFormed};

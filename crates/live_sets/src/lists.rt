@@ -1,3 +1,5 @@
+//! The table of the values that are live across each call.
+
 ghost use Rattle.std.specs.Prelude.{◌≡◌, ◌<◌, ◌≤◌, ◌+◌, ◌^◌, ◌++◌, [], ◌∷◌, ◌&&◌, ◌||◌, not, if◌then◌else◌, length, map, filter, take, IfOk, is_some, Some, slice_index_or, false, true};
 ghost use Rattle.std.specs.List.{list_any};
 ghost use Rattle.std.specs.List.Sorted.{IsStrictlySortedBy};

@@ -1,3 +1,5 @@
+//! The number of the first result of each block.
+
 ghost use Rattle.std.specs.Prelude.{◌≡◌, ◌≤◌, ◌<◌, ◌+◌, length, IfOk};
 ghost use Rattle.ir_ast.specs.Funcs.{instructions_of};
 ghost use Rattle.object_meaning.specs.Lines.{following, after_all, registers_of};

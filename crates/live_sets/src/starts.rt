@@ -1,3 +1,5 @@
+//! Where the search of each value begins: its uses above its own block's definition.
+
 ghost use Rattle.std.specs.Prelude.{◌≡◌, ◌<◌, ◌≤◌, ◌+◌, length, IfOk, slice_get, Some, []};
 ghost use Rattle.std.specs.List.{flat_map, All};
 ghost use Rattle.object_meaning.specs.Lines.{registers_of};

@@ -1,3 +1,5 @@
+//! Which values an instruction uses, with the bases of its pointers.
+
 ghost use Rattle.std.specs.Prelude.{◌≡◌, ◌||◌, ◌&&◌, not, true, false, if◌then◌else◌, IfOk};
 ghost use Rattle.std.specs.List.{list_any};
 ghost use Rattle.ir_ast.specs.declared.ops.Operand.TheVariants.{Value};

@@ -1,3 +1,5 @@
+//! Marks of the values that are pointers.
+
 ghost use Rattle.std.specs.Prelude.{◌≡◌, ◌++◌, ◌<◌, ◌^◌, [], ◌∷◌, if◌then◌else◌, map, filter, is_some, length, IfOk};
 ghost use Rattle.std.specs.List.{range_with_len};
 ghost use Rattle.ir_ast.specs.Types.{is_pointer};

@@ -1,3 +1,5 @@
+//! Numbers drawn from a seed.
+
 ghost use Rattle.std.specs.Prelude.{◌≡◌, ◌<◌};
 ghost use Rattle.generated_forms.specs.Draws.{next_state, drawn};
 

@@ -1,3 +1,5 @@
+//! A module of a given size from a seed.
+
 ghost use Rattle.std.specs.Prelude.{◌≡◌, ◌≤◌, map, IfOk};
 ghost use Rattle.ir_cfg.specs.Unreached.{zeros_of};
 ghost use Rattle.generated_forms.specs.Modules.{node, generated};

@@ -1,3 +1,5 @@
+//! The base of a fact: a named one, or any.
+
 use ir_ast::Operand;
 
 /// What stands beside a pointer in a pair. A pair says that the pointer is fresh, no statepoint having passed since it was

@@ -1,3 +1,5 @@
+//! Laws of pairs at fresh and own bases, without code.
+
 ghost use Rattle.pair_facts.specs.Laws.{BasesAreOwn, FreshWithBase};
 
 /// The law that a named base has itself as its base, wherever a pair with it stands.

@@ -1,3 +1,5 @@
+//! A block with its polls: at the entry's front, and before edges that lead back.
+
 ghost use Rattle.std.specs.Prelude.{◌≡◌, ◌++◌, false, IfOk, nat_le};
 ghost use Rattle.std.specs.Option.{option_to_list};
 ghost use Rattle.std.specs.List.{flat_map, list_any};

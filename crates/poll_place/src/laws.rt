@@ -1,3 +1,5 @@
+//! The laws of placed polls, without code.
+
 ghost use Rattle.poll_place.specs.AtPoints.{PollsStandAtPoints};
 ghost use Rattle.poll_place.specs.Ready.{SourcesAreReady};
 

@@ -1,3 +1,5 @@
+//! Modules and functions with polls at their poll points.
+
 ghost use Rattle.std.specs.Prelude.{◌≡◌, length, map, IfOk};
 ghost use Rattle.std.specs.List.{All};
 ghost use Rattle.ir_ast.specs.Funcs.{content_of, lines_of};

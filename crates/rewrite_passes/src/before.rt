@@ -1,3 +1,5 @@
+//! A function before its groups, with its bases and live values.
+
 ghost use Rattle.std.specs.Prelude.{◌≡◌, map};
 ghost use Rattle.rewriting_forms.specs.Liveness.{live_lists};
 ghost use Rattle.statepoint_insert.specs.Groups.{valued};

@@ -1,3 +1,5 @@
+//! A module with statepoints in place of its calls.
+
 ghost use Rattle.std.specs.Prelude.{◌≡◌, length, map, IfOk};
 ghost use Rattle.std.specs.List.{All};
 ghost use Rattle.ir_ast.specs.Funcs.{content_of, lines_of};

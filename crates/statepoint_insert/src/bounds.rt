@@ -1,3 +1,5 @@
+//! How many lines the calls of a function may need.
+
 ghost use Rattle.std.specs.Prelude.{◌<◌, ◌≤◌};
 ghost use Rattle.std.specs.List.{All};
 

@@ -1,3 +1,5 @@
+//! How many relocates live lists make together.
+
 ghost use Rattle.std.specs.Prelude.{◌≡◌, ◌<◌, ◌^◌, length, map, sum};
 
 use ir_ast::LiveTable;

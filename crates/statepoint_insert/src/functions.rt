@@ -1,3 +1,5 @@
+//! A function with a group for each call that isn't a leaf.
+
 ghost use Rattle.std.specs.Prelude.{◌≡◌, ◌<◌, ◌-◌, ◌^◌, length, map, IfOk};
 ghost use Rattle.std.specs.List.{All};
 ghost use Rattle.rewriting_forms.specs.Liveness.{live_lists};

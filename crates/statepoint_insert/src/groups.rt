@@ -1,3 +1,5 @@
+//! The group of a call: whether `null` is live, and its relocates.
+
 ghost use Rattle.std.specs.Prelude.{◌≡◌};
 
 use sp_ids::ValueId;

@@ -1,3 +1,5 @@
+//! The places of bases among the "gc-live" entries of a call.
+
 ghost use Rattle.std.specs.Prelude.{◌≡◌, ◌<◌, ◌+◌, ◌-◌, ◌^◌, length, map, IfOk};
 ghost use Rattle.std.specs.List.{All, list_any};
 ghost use Rattle.rewriting_forms.specs.Numbered.{base_at};

@@ -1,3 +1,5 @@
+//! A function beside the table of its bases and the groups of its calls.
+
 ghost use Rattle.std.specs.Prelude.{◌≡◌};
 ghost use Rattle.statepoint_insert.specs.Groups.{groups_of};
 ghost use Rattle.statepoint_insert.specs.Marked.{IsReady};

@@ -1,3 +1,5 @@
+//! The lines of a group, put behind those before it.
+
 ghost use Rattle.std.specs.Prelude.{◌≡◌, ◌+◌, ◌-◌, ◌<◌, ◌^◌, ◌++◌, length, IfOk};
 ghost use Rattle.statepoint_insert.specs.Lines.{group_lines};
 

@@ -1,3 +1,5 @@
+//! The pointers that a line lets out: stored, passed or answered.
+
 ghost use Rattle.std.specs.Prelude.{◌≡◌, IfOk};
 ghost use Rattle.pair_facts.specs.Lines.{operand_at};
 ghost use Rattle.pair_facts.specs.Uses.{pointers_of, passed_to, escaping};

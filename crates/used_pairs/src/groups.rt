@@ -1,3 +1,5 @@
+//! The statepoint group of a line, and the pair of entries that a relocate names.
+
 ghost use Rattle.std.specs.Prelude.{◌≡◌, drop, slice_get};
 ghost use Rattle.ir_ast.specs.Faults.GroupShape.{entries_of, is_statepoint};
 ghost use Rattle.object_meaning.specs.Frames.{index_in, is_member};

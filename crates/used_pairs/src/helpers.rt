@@ -1,3 +1,5 @@
+//! The pairs that `gc_check` and `gc_same` name.
+
 ghost use Rattle.std.specs.Prelude.{◌≡◌, ◌^◌, ◌<◌};
 ghost use Rattle.ir_ast.specs.Operands.{callee_of};
 ghost use Rattle.pair_facts.specs.Uses.{use_at};
