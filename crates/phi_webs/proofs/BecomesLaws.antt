@@ -1,14 +1,14 @@
 -- What names become in the end is a removal, and a minimal one.
-use Rattle.std.proofs.Common.{◌≡◌, ◌≢◌, ◌⊎◌, inl, inr, Bool, true, false, cond, ℕ, zero, suc, ◌+◌, ◌<◌, ◌≤◌, List, [], ◌∷◌, length, Option, Some, None, refl, ap, sym, ◌∙◌, subst, arith}
+use Rattle.std.proofs.Common.{◌≡◌, ◌⊎◌, inl, inr, Bool, true, false, cond, ℕ, zero, suc, ◌+◌, ◌<◌, ◌≤◌, List, [], ◌∷◌, length, Option, Some, None, refl, ap, sym, ◌∙◌, subst, arith}
 use Rattle.std.specs.List.{Contains, filter}
 use Rattle.std.specs.Option.{option_or}
 use Rattle.std.proofs.lemmas.Option.{none-some, same_Some}
 use Rattle.std.proofs.lemmas.List.Sums.{length-filter, count_by-le-length}
 use Rattle.list_laws.proofs.Contents.{contains_none, contains_first, contains_later, contains_cons}
 use Rattle.phi_webs.specs.Webs.{Tells, Phi, IsTrivial, replaced, Removal, none, one, IsMinimal}
-use Rattle.phi_webs.specs.Becomes.{Removed, after_removals, other_of, removal_of, next_removal, with_next, removals_within, removals_of, becomes}
+use Rattle.phi_webs.specs.Becomes.{Removed, after_removals, other_of, removal_of, next_removal, with_next, removals_within, becomes}
 use Rattle.phi_webs.specs.Statements.{BecomesIsRemoval, BecomesIsMinimal}
-use Rattle.phi_webs.proofs.TestLemmas.{same_or_not, tells_same, tells_other, replaced_at, replaced_cases}
+use Rattle.phi_webs.proofs.TestLemmas.{tells_same, tells_other, replaced_at, replaced_cases}
 use Rattle.phi_webs.proofs.OnlyLemmas.{other_is_trivial, trivial_has_other}
 use Rattle.phi_webs.proofs.RemovalLaws.{settles_at_once}
 

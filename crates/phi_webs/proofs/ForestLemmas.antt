@@ -1,13 +1,12 @@
 -- Names lead by steps to what they have become.
-use Rattle.std.proofs.Common.{◌≡◌, ◌≢◌, ◌⊎◌, inl, inr, Bool, true, false, cond, ℕ, zero, suc, ◌==◌, ◌+◌, ◌^◌, ◌<◌, ◌≤◌, List, [], length, get_or, slice_set, slice_index_or, refl, ap, sym, ◌∙◌, subst, arith}
+use Rattle.std.proofs.Common.{◌≡◌, ◌≢◌, ◌⊎◌, inl, inr, Bool, true, false, ℕ, zero, suc, ◌==◌, ◌+◌, ◌^◌, ◌<◌, ◌≤◌, List, length, slice_set, refl, ap, sym, ◌∙◌, subst, arith}
 use Rattle.std.specs.Bool.{Decides}
 use Rattle.std.proofs.lemmas.Bool.Decides.{Decides-eqb}
 use Rattle.std.proofs.lemmas.List.{length-set, get_or_past, get_or-set_same, get_or-set_other}
-use Rattle.phi_webs.specs.Webs.{Tells, Phi, IsTrivial, replaced, Removal}
+use Rattle.phi_webs.specs.Webs.{Tells, Phi, IsTrivial, replaced}
 use Rattle.phi_webs.specs.Forests.{up_of, Leads, IsEnd, KeepsEnds}
 use Rattle.phi_webs.specs.Settled.{same}
 use Rattle.phi_webs.proofs.TestLemmas.{same_or_not, tells_same, tells_other, replaced_at, replaced_beside}
-use Rattle.phi_webs.proofs.RemovalLaws.{settles_at_once}
 
 pub tells_numbers : Tells same
 tells_numbers x y = Decides-eqb x y

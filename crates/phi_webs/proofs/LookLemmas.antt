@@ -1,11 +1,11 @@
 -- Looks at the operands of a phi, one after another, and at one phi after another.
-use Rattle.std.proofs.Common.{◌≡◌, ◌≢◌, ◌⊎◌, inl, inr, length-append, ℕ, zero, suc, ◌+◌, ◌^◌, ◌<◌, ◌≤◌, List, [], ◌∷◌, ◌++◌, length, map, take, get_or, slice_set, slice_index_or, Option, Some, None, IfSome, IfNone, refl, ap, sym, ◌∙◌, subst, arith}
+use Rattle.std.proofs.Common.{◌≡◌, ◌≢◌, ◌⊎◌, inl, inr, length-append, ℕ, suc, ◌+◌, ◌^◌, ◌<◌, ◌≤◌, List, [], ◌∷◌, ◌++◌, length, take, get_or, slice_set, slice_index_or, Option, Some, None, IfSome, IfNone, refl, ap, sym, ◌∙◌, subst, arith}
 use Rattle.std.specs.List.{Contains}
 use Rattle.std.proofs.lemmas.Option.{none-some, same_Some}
 use Rattle.std.proofs.lemmas.List.Elements.{All-contains, All-take, All-contains_itself, Contains-append_left, Contains-append_right, Contains-append_cases}
 use Rattle.std.proofs.lemmas.List.{length-set, get_or_past, get_or_append_left, get_or_default, take_more, map_more}
-use Rattle.list_laws.proofs.Contents.{contains_none, contains_first, contains_one, contains_map, IsImage, contains_image}
-use Rattle.phi_webs.specs.Webs.{Phi, NamedOnce, AllRooted, IsTrivial, replaced, Removal, none, one, IsMinimal}
+use Rattle.list_laws.proofs.Contents.{contains_none, contains_first, contains_one, contains_map}
+use Rattle.phi_webs.specs.Webs.{Phi, IsTrivial, replaced, none, one}
 use Rattle.phi_webs.specs.Becomes.{becomes}
 use Rattle.phi_webs.specs.Forests.{up_of, Leads, IsEnd, KeepsEnds}
 use Rattle.phi_webs.specs.declared.rows.PhiRow.{PhiRow}

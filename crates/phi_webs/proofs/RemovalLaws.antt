@@ -1,7 +1,7 @@
 -- What holds of each removal, and why the order of removals doesn't matter.
-use Rattle.std.proofs.Common.{◌≡◌, ◌≢◌, ◌⊎◌, inl, inr, Bool, List, refl, ap, sym, ◌∙◌, subst}
+use Rattle.std.proofs.Common.{◌≡◌, ◌≢◌, inl, inr, Bool, List, refl, ap, sym, ◌∙◌, subst}
 use Rattle.std.specs.List.{Contains}
-use Rattle.phi_webs.specs.Webs.{Tells, Phi, NamedOnce, IsOutside, Rooted, outside, through, AllRooted, IsTrivial, replaced, Removal, none, one, IsMinimal}
+use Rattle.phi_webs.specs.Webs.{Tells, Phi, NamedOnce, Rooted, outside, through, IsTrivial, replaced, Removal, none, one, IsMinimal}
 use Rattle.phi_webs.specs.Statements.{RemovedAreSolved, KeptAreOpen, SettlesAtOnce, OutsideStays, MinimalAbsorbs, OrderIsFree, SharedIsKept}
 use Rattle.phi_webs.proofs.TestLemmas.{same_or_not, replaced_at, replaced_beside, replaced_cases}
 

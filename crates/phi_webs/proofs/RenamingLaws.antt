@@ -1,12 +1,12 @@
 -- Removing phis doesn't depend on how names are called.
-use Rattle.std.proofs.Common.{◌≡◌, ◌≢◌, ◌⊎◌, inl, inr, ◌&&◌, Bool, true, false, not, cond, ℕ, zero, suc, List, [], ◌∷◌, map, length, Option, Some, None, refl, ap, sym, ◌∙◌, subst}
+use Rattle.std.proofs.Common.{◌≡◌, inl, inr, ◌&&◌, Bool, true, false, not, cond, ℕ, zero, suc, List, [], ◌∷◌, map, length, Option, Some, None, refl, ap, sym, ◌∙◌, subst}
 use Rattle.std.specs.List.{Contains, filter, list_all}
 use Rattle.std.specs.Option.{option_map, option_or}
 use Rattle.std.proofs.lemmas.List.{length-map}
 use Rattle.list_laws.proofs.Contents.{contains_none, contains_first, contains_later, contains_cons}
-use Rattle.phi_webs.specs.Webs.{Tells, Phi, IsTrivial, replaced}
-use Rattle.phi_webs.specs.Becomes.{Removed, only, after_removals, other_of, removal_of, next_removal, with_next, removals_within, removals_of, becomes}
-use Rattle.phi_webs.specs.Statements.{renamed_phi, renamed_web, IsRenaming, RenamingCommutes}
+use Rattle.phi_webs.specs.Webs.{Tells, Phi, replaced}
+use Rattle.phi_webs.specs.Becomes.{Removed, only, after_removals, other_of, removal_of, next_removal, with_next, removals_within}
+use Rattle.phi_webs.specs.Statements.{renamed_phi, renamed_web, RenamingCommutes}
 use Rattle.phi_webs.proofs.TestLemmas.{same_or_not, tells_same, tells_other}
 use Rattle.phi_webs.proofs.BecomesLaws.{IsNext, next_is}
 

@@ -1,5 +1,5 @@
 -- A test that tells names apart, and a name where another takes the place of one.
-use Rattle.std.proofs.Common.{◌≡◌, ◌≢◌, ◌⊎◌, inl, inr, Bool, true, false, cond, refl, ap, sym, ◌∙◌}
+use Rattle.std.proofs.Common.{◌≡◌, ◌≢◌, ◌⊎◌, inl, inr, Bool, true, false, cond, refl, ap}
 use Rattle.std.specs.Bool.{Decides}
 use Rattle.phi_webs.specs.Webs.{Tells, replaced}
 

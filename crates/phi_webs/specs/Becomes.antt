@@ -1,5 +1,5 @@
 -- What each name of a web becomes in the end: the first trivial phi goes, as often as there are phis.
-use Rattle.std.specs.Prelude.{Bool, true, false, not, ℕ, zero, suc, List, [], ◌∷◌, length, map, Option, Some, None, if◌then◌else◌}
+use Rattle.std.specs.Prelude.{Bool, not, ℕ, zero, suc, List, [], ◌∷◌, length, map, Option, Some, None, if◌then◌else◌}
 use Rattle.std.specs.List.{filter, list_all}
 use Rattle.std.specs.Option.{option_or}
 use Rattle.phi_webs.specs.Webs.{Phi, replaced}

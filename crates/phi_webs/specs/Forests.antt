@@ -1,5 +1,5 @@
 -- What names have become so far, as a forest: each name has a name one step further, or itself.
-use Rattle.std.specs.Prelude.{◌≡◌, ◌≢◌, ℕ, ◌+◌, ◌^◌, ◌<◌, ◌≤◌, List, length, slice_index_or}
+use Rattle.std.specs.Prelude.{◌≡◌, ◌≢◌, ℕ, ◌^◌, ◌<◌, ◌≤◌, List, length, slice_index_or}
 
 -- the name one step further; one past the end is its own
 abbrev pub up_of : List ℕ → ℕ → ℕ

@@ -1,11 +1,11 @@
 -- Webs over numbers, and what is found of them.
 use Rattle.std.specs.Prelude.{◌≡◌, ℕ, ◌==◌, ◌<◌, ◌≤◌, ◌≢◌, ◌⊎◌, Bool, List, length, map, Option, Some, None, slice_index_or}
-use Rattle.std.specs.List.{Contains, All}
+use Rattle.std.specs.List.{Contains}
 use Rattle.phi_webs.specs.declared.rows.PhiRow.{PhiRow}
 use Rattle.phi_webs.specs.declared.rows.Replaced.{Replaced}
 use Rattle.phi_webs.specs.Webs.{Phi, NamedOnce, AllRooted, IsTrivial, Removal, IsMinimal}
 use Rattle.phi_webs.specs.Becomes.{becomes}
-use Rattle.phi_webs.specs.Forests.{Leads, up_of}
+use Rattle.phi_webs.specs.Forests.{Leads}
 
 abbrev pub same : ℕ → ℕ → Bool
 same x y = x == y

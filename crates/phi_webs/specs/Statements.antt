@@ -1,7 +1,7 @@
 -- The laws of webs of phis, over any names that a test tells apart.
 use Rattle.std.specs.Prelude.{◌≡◌, ◌≢◌, Bool, List, map}
 use Rattle.std.specs.List.{Contains}
-use Rattle.phi_webs.specs.Webs.{Tells, Phi, NamedOnce, IsOutside, Rooted, AllRooted, Removal, IsMinimal}
+use Rattle.phi_webs.specs.Webs.{Phi, NamedOnce, IsOutside, Rooted, AllRooted, Removal, IsMinimal}
 use Rattle.phi_webs.specs.Becomes.{becomes}
 
 module _ (A : Type 0) (same : A → A → Bool) where

@@ -1,5 +1,3 @@
-use Rattle.std.proofs.Common.{◌≡◌, ℕ, ◌≤◌}
-use Rattle.phi_webs.specs.Forests.{Leads}
 use Rattle.phi_webs.proofs.ForestLemmas.{Climbs}
 use Rattle.phi_webs.proofs.forest.climbed.Given as goal
 

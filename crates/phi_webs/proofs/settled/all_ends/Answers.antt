@@ -1,4 +1,4 @@
-use Rattle.std.proofs.Common.{◌≡◌, ℕ, ◌<◌, List, length, subst, arith}
+use Rattle.std.proofs.Common.{ℕ, ◌<◌, length, subst, arith}
 use Rattle.phi_webs.specs.Forests.{IsEnd}
 use Rattle.phi_webs.proofs.LookLemmas.{ends_more, ends_all, read_up}
 use Rattle.phi_webs.proofs.settled.all_ends.Goals as goal

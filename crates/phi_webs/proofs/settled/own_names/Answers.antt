@@ -1,4 +1,4 @@
-use Rattle.std.proofs.Common.{◌<◌, length, arith}
+use Rattle.std.proofs.Common.{arith}
 use Rattle.phi_webs.specs.Settled.{web_of}
 use Rattle.phi_webs.proofs.LookLemmas.{room_from}
 use Rattle.phi_webs.proofs.settled.own_names.Goals as goal

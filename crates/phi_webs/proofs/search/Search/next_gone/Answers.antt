@@ -1,4 +1,4 @@
-use Rattle.std.proofs.Common.{◌≡◌, ℕ, ◌<◌, length, refl, slice_index_or, arith}
+use Rattle.std.proofs.Common.{◌≡◌, ◌<◌, length, refl, slice_index_or, arith}
 use Rattle.phi_webs.specs.declared.rows.PhiRow.{PhiRow}
 use Rattle.phi_webs.specs.declared.rows.Replaced.{Replaced}
 use Rattle.phi_webs.specs.Settled.{phi_of, web_of, HasOther}
