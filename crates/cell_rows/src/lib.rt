@@ -3,4 +3,4 @@
 
 mod shapes;
 
-pub use shapes::{Shape, bytes_of, fields_of, place_of};
+pub use shapes::{Shape, bytes_of, place_of};

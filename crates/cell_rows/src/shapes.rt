@@ -1,10 +1,7 @@
 //! Where the cells of objects stand among all cells, and how many bytes they take.
 
 ghost use Rattle.std.specs.Prelude.{◌≡◌};
-ghost use Rattle.ir_ast.specs.Sizes.{fields_in};
 ghost use Rattle.cell_rows.specs.Rows.{AreOrdered, bytes_of, place_in};
-
-use ir_ast::{Cell, Layout};
 
 /// The bytes of a cell.
 const CELL_BYTES: u64 = 8;
@@ -40,14 +37,4 @@ pub fn bytes_of(cells: u32) -> u64
     ensures { result ≡ bytes_of cells }
 {
     (u64::from(cells) * CELL_BYTES).max(CELL_BYTES)
-}
-
-/// The fields of a layout, by its place; none, where there is no such layout.
-pub fn fields_of(layouts: &[Layout], layout: u32) -> &[Cell]
-    ensures { result.now ≡ fields_in layouts.now layout }
-{
-    match layouts.get(layout as usize) {
-        None => &[],
-        Some(layout) => layout.fields(),
-    }
 }

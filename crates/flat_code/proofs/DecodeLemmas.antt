@@ -1,6 +1,7 @@
 -- One line more, and one segment more.
 use Rattle.std.proofs.Common.{◌≡◌, ℕ, zero, suc, Bool, true, false, List, [], ◌∷◌, ◌++◌, length, refl, sym, ap, subst, ◌∙◌, ◌≤◌, arith, append_assoc, append-nil}
 use Rattle.std.specs.Prelude.{Option, Some, None, MatchOption, ◌||◌, if◌then◌else◌, slice_get}
+use Rattle.std.proofs.lemmas.Bool.{or_right}
 use Rattle.ir_ast.specs.Layouts.{ObjectLayout}
 use Rattle.ir_ast.specs.Funcs.{Function}
 use Rattle.ir_ast.specs.Faults.PhiEdges.{is_phi}
@@ -38,10 +39,6 @@ decodes_skip layouts lines at rest flats line is phi so_far =
           ∙ ap (λ (x : List FlatLine). flat_lines layouts so_far.front ++ x) (sym none) ∙ sym (flat_append layouts so_far.front (line ∷ []));
     }
 
-or_true : (b c : Bool) → c ≡ true → (b || c) ≡ true
-or_true true c e = refl
-or_true false c e = e
-
 pub decodes_push : (layouts : List ObjectLayout) (lines at rest : List Line) (flats : List FlatLine) (line : Line) → at ≡ line ∷ rest
     → is_phi line.inst.op ≡ false → is_straight line.inst.op ≡ true → Decodes layouts lines flats at
     → Decodes layouts lines (flats ++ flat_line layouts line ∷ []) rest
@@ -50,7 +47,7 @@ decodes_push layouts lines at rest flats line is plain straight so_far =
     record {
       front = so_far.front ++ line ∷ [];
       splits = so_far.splits ∙ ap (λ (x : List Line). so_far.front ++ x) is ∙ sym (append_assoc so_far.front (line ∷ []) rest);
-      inner = inner_push so_far.front line so_far.inner (or_true (is_phi line.inst.op) (is_straight line.inst.op) straight);
+      inner = inner_push so_far.front line so_far.inner (or_right (is_phi line.inst.op) (is_straight line.inst.op) straight);
       are = ap (λ (x : List FlatLine). x ++ flat_line layouts line ∷ []) so_far.are
           ∙ ap (λ (x : List FlatLine). flat_lines layouts so_far.front ++ x) (sym one) ∙ sym (flat_append layouts so_far.front (line ∷ []));
     }
@@ -102,10 +99,6 @@ front_get {A = A} xs ys place x front is = subst (λ (all : List A). slice_get a
     within [] more place is = absurd (let no : None ≡ Some x = is in cc)
     within (y ∷ xs) more zero is = is
     within (y ∷ xs) more (suc place) is = within xs more place is
-
-pub get_last : {A : Type 0} (xs : List A) (x : A) → slice_get (xs ++ x ∷ []) (length xs) ≡ Some x
-get_last [] x = refl
-get_last (y ∷ xs) x = get_last xs x
 
 -- one more place, and what is where there is one
 pub places_more : (places : List ℕ) (place : ℕ) (P : ℕ → ℕ → Type 0) → ((k found : ℕ) → slice_get places k ≡ Some found → P k found)

@@ -1,11 +1,9 @@
 -- The phis at the front of a block, as instructions and as lines.
 use Rattle.std.proofs.Common.{◌≡◌, ℕ, suc, ◌+◌, true, false, inl, inr, List, [], ◌∷◌, ◌++◌, map, take, drop, refl, ap, arith}
 use Rattle.std.specs.Prelude.{if◌then◌else◌}
-use Rattle.ir_ast.specs.declared.ops.Op.{Op}
-use Rattle.ir_ast.specs.declared.ops.Op.TheVariants.{Phi}
 use Rattle.ir_ast.specs.Insts.{Instruction}
-use Rattle.ir_ast.specs.Ops.{is_terminator}
-use Rattle.ir_ast.specs.Faults.PhiEdges.{is_phi}
+use Rattle.ir_ast.specs.Ops.{is_phi}
+use Rattle.ir_ast.proofs.OpLaws.{phi_goes_on}
 use Rattle.object_meaning.specs.Lines.{poll, numbered, following, after_all, retreats, lines_from}
 use Rattle.object_meaning.specs.Jumps.{phi_count}
 use Rattle.object_meaning.proofs.ListLemmas.{known}
@@ -13,14 +11,10 @@ use Rattle.flat_code.specs.declared.lines.Copied.{Copied}
 use Rattle.flat_code.specs.Edges.{copy_of, phis_in, copies_from}
 use Rattle.flat_code.specs.Spots.{phis_of}
 
-phi_stays : (op : Op) → is_phi op ≡ true → is_terminator op ≡ false
-phi_stays Phi e = refl
-phi_stays _ e = cc
-
 -- no poll stands before a phi
 phi_line : (block next : ℕ) (inst : Instruction) (insts : List Instruction) → is_phi inst.op ≡ true
     → lines_from block next (inst ∷ insts) ≡ numbered next inst ∷ lines_from block (following next inst) insts
-phi_line block next inst insts e = rw (phi_stays inst.op e) refl
+phi_line block next inst insts e = rw (phi_goes_on inst.op e) refl
 
 other_line : (block next : ℕ) (inst : Instruction) (insts : List Instruction) → is_phi inst.op ≡ false
     → phi_count (lines_from block next (inst ∷ insts)) ≡ 0

@@ -1,15 +1,11 @@
 -- The steps of the loops that number registers.
 use Rattle.std.proofs.Common.{◌≡◌, ℕ, ◌+◌, ◌<◌, List, [], ◌∷◌, ◌++◌, length, drop, get_or, sym, ap, ◌∙◌, append_assoc}
-use Rattle.std.proofs.lemmas.List.{drop_more}
+pub use Rattle.list_laws.proofs.Places.{drop_item as rest_at}
 use Rattle.ir_ast.specs.Insts.{Instruction}
 use Rattle.ir_ast.specs.Blocks.{BasicBlock}
 use Rattle.flat_code.specs.declared.lines.Copied.{Copied}
 use Rattle.object_meaning.specs.Lines.{numbered, following, after_all, first_registers}
 use Rattle.flat_code.specs.Edges.{copy_of, copies_from}
-
--- the rest of a list from a place that was read
-pub rest_at : {X : Type 0} (xs : List X) (i : ℕ) (x : X) → i < length xs → x ≡ get_or xs i x → drop i xs ≡ x ∷ drop (i + 1) xs
-rest_at xs i x below read = drop_more xs i x below ∙ ap (λ y. y ∷ drop (i + 1) xs) (sym read)
 
 pub after_more : (first next after : ℕ) (insts : List Instruction) (i : ℕ) (inst : Instruction) → i < length insts
     → inst ≡ get_or insts i inst → after ≡ following next inst → after_all next (drop i insts) ≡ after_all first insts

@@ -125,7 +125,7 @@ acts_is setting state line rest Load e = load_effect state line rest _
 acts_is setting state line rest Store e = store_effect state line rest (operand state.running.registers line.inst.operands 0) _
 acts_is setting state line rest _ e = cc
 
-value_at : (registers : List Datum) (operands : List Operand) (place : ℕ) → value registers (operand_at operands place) ≡ operand registers operands place
+pub value_at : (registers : List Datum) (operands : List Operand) (place : ℕ) → value registers (operand_at operands place) ≡ operand registers operands place
 value_at registers operands place =
     elim (slice_get operands place) as (λ found. value registers (unwrap_or found (Int 0)) ≡ option_map_or (value registers) found nothing) [
       | None ↦ refl

@@ -4,6 +4,7 @@ use Rattle.std.specs.Int.{w64, cast_unsigned}
 use Rattle.sp_ids.specs.Numbers.{signed}
 use Rattle.sp_ids.specs.declared.ends.Trap.{Trap}
 use Rattle.ir_ast.specs.declared.ops.Op.TheVariants as ops
+use Rattle.ir_ast.specs.Widths.{IsWidth}
 use Rattle.ir_ast.specs.Objects.{Datum, number, pointer, advanced}
 use Rattle.object_meaning.specs.Numbers.{arithmetic, truncated, sign_extended}
 use Rattle.object_meaning.specs.Comparisons.{numbers_compare, pointers_related, same_pointer, bit}
@@ -11,10 +12,6 @@ use Rattle.object_meaning.specs.Computing.{with_number}
 use Rattle.object_meaning.specs.Registers.{number_in, pointer_in, is_set}
 use Rattle.flat_code.specs.declared.lines.Action.{Action}
 use Rattle.flat_code.specs.declared.lines.Action.TheVariants.{Add, Sub, Mul, Udiv, Sdiv, Urem, Srem, And, Or, Xor, Shl, Lshr, Ashr, Compare, ComparePointers, Truncate, Widen, SignExtend, Select, Advance}
-
--- the bits that an action works on are those of a register
-abbrev pub IsWidth : ℕ → Type 0
-IsWidth width = (1 ≤ width) × (width ≤ 64)
 
 abbrev pub ExtendsWell : Action → Type 0
 ExtendsWell (SignExtend to) = IsWidth to

@@ -1,5 +1,5 @@
 -- What the phis of a block assign on an edge to it.
-use Rattle.std.specs.Prelude.{◌≡◌, ℕ, ◌==◌, List, [], ◌∷◌, map, take, Option}
+use Rattle.std.specs.Prelude.{◌≡◌, ℕ, ◌==◌, List, [], ◌∷◌, map, Option}
 use Rattle.std.specs.List.{position}
 use Rattle.std.specs.Option.{option_map_or}
 use Rattle.ir_ast.specs.declared.ops.Operand.{Operand}
@@ -8,7 +8,7 @@ use Rattle.ir_ast.specs.Insts.{Instruction}
 use Rattle.ir_ast.specs.Funcs.{Function}
 use Rattle.ir_ast.specs.Objects.{Datum}
 use Rattle.object_meaning.specs.Lines.{Line, numbered, following, lines_from}
-use Rattle.object_meaning.specs.Jumps.{phi_count}
+pub use Rattle.object_meaning.specs.BlockLines.{phis_in}
 use Rattle.object_meaning.specs.Registers.{Write, value}
 use Rattle.flat_code.specs.declared.lines.Copied.{Copied}
 use Rattle.flat_code.specs.declared.lines.Edge.{Edge}
@@ -22,12 +22,9 @@ chosen from phi = option_map_or (operand_at phi.operands) (position (λ label. l
 abbrev pub copy_of : ℕ → Line → Copied
 copy_of from phi = record { to = phi.to; from = chosen from phi.inst }
 
--- the lines of a block, and the phis at their front
+-- the lines of a block
 abbrev pub block_lines : Option Function → ℕ → List Line
 block_lines defined block = lines_from block (first_at defined block) (insts_at defined block)
-
-abbrev pub phis_in : List Line → List Line
-phis_in lines = take (phi_count lines) lines
 
 -- the edge from a block to one with this label
 pub record IsEdge (defined : Option Function) (from label : ℕ) (edge : Edge) : Type 0 where

@@ -1,13 +1,13 @@
 -- Where a frame stands in a function, and the lines there. A function that isn't there has none.
 use Rattle.std.specs.Prelude.{◌≡◌, ℕ, ◌+◌, ◌-◌, List, [], ◌∷◌, length, take, drop, Option, slice_index}
-use Rattle.std.specs.List.{All, prefix_len}
+use Rattle.std.specs.List.{All}
 use Rattle.std.specs.Option.{option_map_or}
 use Rattle.std.specs.Prelude.{false}
 use Rattle.ir_ast.specs.Layouts.{ObjectLayout}
 use Rattle.ir_ast.specs.Insts.{Instruction}
 use Rattle.ir_ast.specs.Funcs.{Function}
+pub use Rattle.ir_ast.specs.Funcs.{phis_of}
 use Rattle.ir_ast.specs.Lines.{is_rewritten}
-use Rattle.ir_ast.specs.Faults.PhiEdges.{is_phi}
 use Rattle.object_meaning.specs.Lines.{Line, poll, numbered, following, after_all, lines_from, insts_in, registers_of}
 use Rattle.flat_code.specs.declared.spots.Due.{Due}
 use Rattle.flat_code.specs.declared.spots.Due.TheVariants.{Front, Line as Next, Behind}
@@ -36,9 +36,6 @@ lines_at defined spot = lines_due spot.due spot.block spot.next (drop spot.at (i
 -- behind the line at which a frame stands
 abbrev pub passed_spot : Spot → Instruction → Spot
 passed_spot spot inst = record spot { at = spot.at + 1; next = following spot.next inst; due = Next }
-
-abbrev pub phis_of : List Instruction → ℕ
-phis_of insts = prefix_len (λ inst. is_phi inst.op) insts
 
 -- the front of a function, its first line, and the line behind the phis of a block
 abbrev pub front_spot : Option Function → Spot

@@ -1,7 +1,7 @@
 //! What a line of a module does, decoded.
 
 ghost use Rattle.std.specs.Prelude.{◌≡◌, ◌≤◌, ◌%◌, ◌^◌, ◌*◌, length};
-ghost use Rattle.ir_ast.specs.Sizes.{begins_at, fields_in};
+ghost use Rattle.ir_ast.specs.Sizes.{begins_at};
 ghost use Rattle.object_meaning.specs.Accesses.{cell_of};
 ghost use Rattle.object_meaning.specs.Computing.{element_bytes, field_bytes};
 ghost use Rattle.flat_code.specs.Actions.{ExtendsWell};
@@ -148,23 +148,25 @@ fn cell_of(ty: &Ty) -> Cell
     }
 }
 
-fn element_bytes(layouts: &[Layout], elem: Elem) -> u64
+/// The bytes of an element that `getelementptr` steps over, modulo 2^64.
+pub fn element_bytes(layouts: &[Layout], elem: Elem) -> u64
     ensures { result ≡ element_bytes layouts.now elem % 2 ^ 64 }
 {
     match elem {
         Elem::Int(width) => u64::from(width / 8),
         Elem::Ptr => 8,
-        Elem::Layout(layout) => (fields_of(layouts, layout).len() as u64).wrapping_mul(8),
+        Elem::Layout(layout) => (Layout::fields_of(layouts, layout).len() as u64).wrapping_mul(8),
     }
 }
 
-fn field_bytes(layouts: &[Layout], elem: Elem, place: Option<u32>) -> u64
+/// The byte of an element at which the field that `getelementptr` names begins.
+pub fn field_bytes(layouts: &[Layout], elem: Elem, place: Option<u32>) -> u64
     ensures { result ≡ field_bytes layouts.now elem place }
 {
     match elem {
         Elem::Layout(layout) => match place {
             None => 0,
-            Some(place) => begins_at(fields_of(layouts, layout), place),
+            Some(place) => begins_at(Layout::fields_of(layouts, layout), place),
         },
         Elem::Int(_) | Elem::Ptr => 0,
     }
@@ -177,14 +179,5 @@ fn begins_at(fields: &[Cell], place: u32) -> u64
         8 * u64::from(place)
     } else {
         0
-    }
-}
-
-fn fields_of(layouts: &[Layout], layout: u32) -> &[Cell]
-    ensures { result.now ≡ fields_in layouts.now layout }
-{
-    match layouts.get(layout as usize) {
-        None => &[],
-        Some(layout) => layout.fields(),
     }
 }

@@ -58,7 +58,7 @@ impl<'m> Code<'m> {
     pub fn func(&self, func: u32) -> Option<&Func>
         ensures { option_map (λ func. func.now.content) result ≡ slice_get self.now.content.funcs func }
     {
-        func_at(self.module, func as usize)
+        self.module.func_at(func as usize)
     }
 
     /// The segment at a place of a function.
@@ -116,23 +116,8 @@ fn function_of(alloc: Global, module: &Module, place: usize) -> Result<Function,
     requires { IsReadyModule «module».now.content }
     ensures { IfOk result (λ func. IsFunction «module».now.content.layouts (slice_get «module».now.content.funcs place) func) }
 {
-    let source = Source::of(alloc, module.layouts(), func_at(module, place))?;
+    let source = Source::of(alloc, module.layouts(), module.func_at(place))?;
     function(alloc, &source)
-}
-
-fn func_at(module: &Module, place: usize) -> Option<&Func>
-    ensures { option_map (λ func. func.now.content) result ≡ slice_get «module».now.content.funcs place }
-{
-    match func_in(module.funcs(), place) {
-        None => None,
-        Some(func) => Some(func),
-    }
-}
-
-fn func_in(funcs: &[Func], place: usize) -> Option<&Func>
-    ensures { MatchOption result (slice_get funcs.now place ≡ None) (λ func. slice_get funcs.now place ≡ Some func.now) }
-{
-    funcs.get(place)
 }
 
 fn segment_in(segments: &[Segment], place: usize) -> Option<&Segment>

@@ -15,7 +15,7 @@ use crate::actions::{flat_line, is_straight};
 use crate::edges::{edge_at, edges};
 use crate::lines::{Exit, FlatLine, Function, Segment};
 use crate::numbers::width_of;
-use crate::sources::{Source, after_all, is_phi, passed, phi_count, register_of, retreats};
+use crate::sources::{Source, after_all, passed, register_of, retreats};
 use crate::spots::{Due, Spot};
 use ir_ast::{Callee, Inst, Op, Operand};
 use sp_ids::Memory;
@@ -116,7 +116,7 @@ fn begin_block(
     ensures kept { OnOk result (IsFront (starts_in segments.old.items) (starts_in segments.new.items)) }
 {
     let insts = source.insts(block);
-    let at = phi_count(insts);
+    let at = Inst::phi_count(insts);
     if block == 0 && at == 0 {
         return Ok(1);
     }
@@ -204,7 +204,7 @@ fn take_line(alloc: Global, source: &Source, draft: &mut Open, inst: &Inst) -> R
     ensures spot { OnOk result (draft.new.spot ≡ passed_spot draft.old.spot inst.now) }
     ensures starts { OnOk result (IsFront (starts_of draft.old) (starts_of draft.new)) }
 {
-    if is_phi(inst.op()) {
+    if inst.op().is_phi() {
         skip_phi(source, draft, inst)
     } else if is_straight(inst.op()) {
         push_line(source, draft, inst)

@@ -1,6 +1,6 @@
 //! Edges: which phis they resolve, and to what.
 
-ghost use Rattle.std.specs.Prelude.{◌≡◌, ◌==◌, ◌<◌, ◌≤◌, IfOk, length};
+ghost use Rattle.std.specs.Prelude.{◌≡◌, ◌==◌, ◌<◌, ◌≤◌, IfOk, drop, length};
 ghost use Rattle.std.specs.List.{position};
 ghost use Rattle.object_meaning.specs.Jumps.{label_at};
 ghost use Rattle.object_meaning.specs.Lines.{numbered};
@@ -9,7 +9,7 @@ ghost use Rattle.flat_code.specs.Segments.{AreEdges};
 
 use crate::actions::operand_at;
 use crate::lines::{Copied, Edge};
-use crate::sources::{Source, following, phi_count, register_of};
+use crate::sources::{Source, following, register_of};
 use ir_ast::{Inst, Operand};
 use sp_ids::{BlockId, Memory};
 use std::alloc::Global;
@@ -19,7 +19,12 @@ pub(crate) fn edge(alloc: Global, source: &Source, from: u32, label: u32) -> Res
     ensures { IfOk result (λ edge. IsEdge source.now.defined from label edge) }
 {
     let insts = source.insts(label);
-    let copies = copies_of(alloc, from, source.first(label), &insts[..phi_count(insts)])?;
+    let copies = copies_of(
+        alloc,
+        from,
+        source.first(label),
+        &insts[..Inst::phi_count(insts)],
+    )?;
     Ok(Edge {
         block: label,
         copies,
@@ -96,11 +101,22 @@ pub(crate) fn edges(
     Ok(edges)
 }
 
-fn label_at(labels: &[BlockId], place: usize) -> u32
+/// The block of a terminator's label at a place.
+pub fn label_at(labels: &[BlockId], place: usize) -> u32
     ensures { result ≡ label_at labels.now place }
 {
     match labels.get(place) {
         None => 0,
         Some(label) => label.0,
+    }
+}
+
+/// The cases of a `switch`, which stand behind its value.
+pub fn cases_of(operands: &[Operand]) -> &[Operand]
+    ensures { result.now ≡ drop 1 operands.now }
+{
+    match operands {
+        [] => &[],
+        [_value, cases @ ..] => cases,
     }
 }

@@ -2,13 +2,12 @@
 
 ghost use Rattle.std.specs.Prelude.{◌≡◌, ◌≤◌, ℕ, [], IfOk, length, nat_le};
 ghost use Rattle.std.specs.Option.{option_map, option_map_or};
-ghost use Rattle.object_meaning.specs.Lines.{numbered, following, after_all, registers_of, insts_in, retreats};
-ghost use Rattle.flat_code.specs.Spots.{AllReady, IsReadyFunction, insts_at, first_at, count_at, passed_spot, phis_of};
+ghost use Rattle.object_meaning.specs.Lines.{numbered, following, after_all, registers_of, retreats};
+ghost use Rattle.flat_code.specs.Spots.{AllReady, IsReadyFunction, insts_at, first_at, count_at, passed_spot};
 ghost use Rattle.std.specs.List.{list_any};
-ghost use Rattle.ir_ast.specs.Faults.PhiEdges.{is_phi};
 
 use crate::spots::{Due, Spot};
-use ir_ast::{Func, Inst, Layout, Op};
+use ir_ast::{Func, Inst, Layout};
 use sp_ids::{BlockId, Memory};
 use std::alloc::Global;
 use std::marker::Model;
@@ -67,7 +66,7 @@ impl<'m> Source<'m> {
     {
         match self.func {
             None => &[],
-            Some(func) => insts_in(func, block),
+            Some(func) => func.insts_in(block),
         }
     }
 
@@ -96,16 +95,6 @@ impl<'m> Source<'m> {
     }
 }
 
-/// The instructions of a block of a function.
-pub fn insts_in(func: &Func, block: u32) -> &[Inst]
-    ensures { result.now ≡ insts_in func.now.content block }
-{
-    match func.blocks().get(block as usize) {
-        None => &[],
-        Some(block) => block.insts(),
-    }
-}
-
 fn firsts_of(alloc: Global, func: Option<&Func>) -> Result<Vec<usize>, Memory>
     ensures { IfOk result (λ list. list.items ≡ option_map_or (λ func. registers_of func.now.content) func.entry []) }
 {
@@ -115,7 +104,8 @@ fn firsts_of(alloc: Global, func: Option<&Func>) -> Result<Vec<usize>, Memory>
     }
 }
 
-fn registers_of(alloc: Global, func: &Func) -> Result<Vec<usize>, Memory>
+/// The register of the first result of each block, and last the number of all registers.
+pub fn registers_of(alloc: Global, func: &Func) -> Result<Vec<usize>, Memory>
     ensures { IfOk result (λ list. list.items ≡ registers_of func.now.content) }
 {
     let mut list = Vec::with_capacity(alloc, func.blocks().len())?;
@@ -130,7 +120,7 @@ fn registers_of(alloc: Global, func: &Func) -> Result<Vec<usize>, Memory>
 }
 
 /// The register after the results of these instructions.
-pub(crate) fn after_all(first: usize, insts: &[Inst]) -> Result<usize, Memory>
+pub fn after_all(first: usize, insts: &[Inst]) -> Result<usize, Memory>
     ensures { IfOk result (λ next. next ≡ after_all first insts.now) }
 {
     let mut next = first;
@@ -142,7 +132,8 @@ pub(crate) fn after_all(first: usize, insts: &[Inst]) -> Result<usize, Memory>
 }
 
 /// The register of the next result after an instruction whose own would be this one.
-pub(crate) fn following(next: usize, inst: &Inst) -> Result<usize, Memory>
+#[inline(always)]
+pub fn following(next: usize, inst: &Inst) -> Result<usize, Memory>
     ensures { IfOk result (λ number. number ≡ following next inst.now) }
 {
     if inst.result().is_some() {
@@ -178,25 +169,6 @@ pub(crate) fn passed(spot: Spot, inst: &Inst) -> Result<Spot, Memory>
         due: Due::Line,
         ..spot
     })
-}
-
-/// How many phis stand at the front.
-pub(crate) fn phi_count(insts: &[Inst]) -> usize
-    ensures value { result ≡ phis_of insts.now }
-    ensures within { result ≤ length insts.now }
-{
-    let mut count = 0;
-    while count < insts.len() && is_phi(insts[count].op()) {
-        count += 1;
-    }
-    count
-}
-
-/// Whether it is a phi.
-pub(crate) fn is_phi(op: &Op) -> bool
-    ensures { result ≡ is_phi op.now }
-{
-    matches!(op, Op::Phi)
 }
 
 /// Whether a terminator has an edge to the same or an earlier place than its block.

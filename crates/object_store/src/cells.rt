@@ -7,7 +7,7 @@ ghost use Rattle.cell_rows.specs.declared.shapes.Shape.{Shape};
 ghost use Rattle.object_store.specs.Stored.{HasCells, place_result, reached, blank_word, blank_words};
 
 use crate::words::Word;
-use cell_rows::{Shape, fields_of};
+use cell_rows::Shape;
 use ir_ast::{Cell, Layout};
 use sp_ids::Trap;
 
@@ -37,7 +37,7 @@ pub(crate) fn reach(
         return Err(Trap::Null);
     }
     let shape = shapes[(object - 1) as usize];
-    let fields = fields_of(layouts, shape.layout);
+    let fields = Layout::fields_of(layouts, shape.layout);
     within(object, offset, fields, asked, shape.count)
 }
 

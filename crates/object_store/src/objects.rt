@@ -11,7 +11,7 @@ ghost use Rattle.object_store.specs.Words.{datum, datum_result};
 
 use crate::cells::{add_blanks, reach};
 use crate::words::Word;
-use cell_rows::{Shape, bytes_of, fields_of, place_of};
+use cell_rows::{Shape, bytes_of, place_of};
 use ir_ast::{Cell, Layout};
 use sp_ids::limits::HEAP_BYTES;
 use sp_ids::{Memory, Trap};
@@ -69,7 +69,7 @@ impl<'m> Objects<'m> {
         ensures made { IfOk result (Makes self.old self.new layout count) }
         ensures kept { OnErr result (self.new ≡ self.old) }
     {
-        let fields = fields_of(self.layouts, layout);
+        let fields = Layout::fields_of(self.layouts, layout);
         let Some(cells) = room_of(fields, count, self.used) else {
             return Ok(None);
         };

@@ -7,7 +7,7 @@ ghost use Rattle.object_meaning.specs.Texts.{bundle_of, function_name};
 ghost use Rattle.waiting_frames.specs.Shown.{is_at_instruction};
 
 use crate::frames::Spot;
-use flat_code::{Code, Due, Spot as Place, insts_in, retreats};
+use flat_code::{Code, Due, Spot as Place, retreats};
 use ir_ast::{Inst, Operand, Ty};
 
 /// The bundle of the line at the exit of a segment.
@@ -52,7 +52,7 @@ fn insts_at<'c>(code: &'c Code, func: u32, block: u32) -> &'c [Inst]
 {
     match code.func(func) {
         None => &[],
-        Some(func) => insts_in(func, block),
+        Some(func) => func.insts_in(block),
     }
 }
 

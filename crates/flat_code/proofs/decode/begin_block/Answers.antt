@@ -8,7 +8,8 @@ use Rattle.flat_code.specs.declared.lines.Segment.{Segment}
 use Rattle.flat_code.specs.Flats.{IsSizedLine}
 use Rattle.flat_code.specs.Spots.{lines_at, behind_phis}
 use Rattle.flat_code.specs.Segments.{starts_in}
-use Rattle.flat_code.proofs.DecodeLemmas.{decodes_none, chained_open, front_get, get_last}
+use Rattle.list_laws.proofs.Places.{get_last}
+use Rattle.flat_code.proofs.DecodeLemmas.{decodes_none, chained_open, front_get}
 use Rattle.flat_code.proofs.decode.begin_block.Goals as goal
 
 pub decode_block-requires-clause-open : goal.decode_block-requires-clause-open
