@@ -1,7 +1,8 @@
 //! The line that closes a run.
-ghost use Rattle.std.specs.Prelude.{◌≡◌, ◌≤◌, ◌++◌, OnOk, OnErr};
+ghost use Rattle.std.specs.Prelude.{◌≡◌, ◌≤◌, ◌++◌, length, OnOk, OnErr};
 ghost use Rattle.tool_io.specs.Counts.{Rose};
 ghost use Rattle.tool_io.specs.Sink.{append_known, AppendsFront};
+ghost use Rattle.tool_io.specs.Told.{add_told};
 ghost use Rattle.tool_report.specs.Closings.{closing_line, counts, end_words, in_function, trap_name};
 
 use crate::numbers::SignedDecimal;
@@ -11,7 +12,7 @@ use tool_io::{Failed, Sink};
 
 /// Puts the line that closes a run which ended so after these steps and events. The function's name is
 /// shown at a trap, poison and a lost frame. After `Failed`, which comes only where the sink's count of
-/// faults rose, a front of the line was added.
+/// faults rose, a front of the line was added. A line of at most 8,192 bytes is put by one call.
 pub fn closing<O: Sink>(
     end: End,
     func: &[u8],
@@ -23,6 +24,7 @@ pub fn closing<O: Sink>(
     ensures err { OnErr result (AppendsFront (O.written out.old) (O.written out.new) (closing_line end func.now steps events)) }
     ensures failed { OnErr result (Rose (O.faults out.old) (O.faults out.new)) }
     ensures count { O.faults out.old ≤ O.faults out.new }
+    ensures by_one_put { length (closing_line end func.now steps events) ≤ 8192 → OnOk result (O.puts out.new ≡ add_told (O.puts out.old) (closing_line end func.now steps events)) }
 {
     put_text(&(EndWords { end, func }, Counts { steps, events }), out)
 }

@@ -1,7 +1,8 @@
 //! What is said on standard error where the work doesn't come to its end.
-ghost use Rattle.std.specs.Prelude.{◌≡◌, ◌≤◌, ◌++◌, codes, decimal, OnOk, OnErr};
+ghost use Rattle.std.specs.Prelude.{◌≡◌, ◌≤◌, ◌++◌, codes, decimal, length, OnOk, OnErr};
 ghost use Rattle.tool_io.specs.Counts.{Rose};
 ghost use Rattle.tool_io.specs.Sink.{append_known, AppendsFront};
+ghost use Rattle.tool_io.specs.Told.{add_told};
 ghost use Rattle.tool_report.specs.Notes.{note_text};
 
 use crate::names::{check_name, map_name, module_name, plan_name};
@@ -34,12 +35,13 @@ pub enum Note<'a> {
 }
 
 /// Puts the line of a refusal. After `Failed`, which comes only where the sink's count of faults rose, a
-/// front of the line was added.
+/// front of the line was added. A line of at most 8,192 bytes is put by one call.
 pub fn note_line<O: Sink>(note: Note<'_>, notes: &mut O) -> Result<(), Failed>
     ensures ok { OnOk result (O.written notes.new ≡ append_known (O.written notes.old) (note_text note.entry)) }
     ensures err { OnErr result (AppendsFront (O.written notes.old) (O.written notes.new) (note_text note.entry)) }
     ensures failed { OnErr result (Rose (O.faults notes.old) (O.faults notes.new)) }
     ensures count { O.faults notes.old ≤ O.faults notes.new }
+    ensures by_one_put { length (note_text note.entry) ≤ 8192 → OnOk result (O.puts notes.new ≡ add_told (O.puts notes.old) (note_text note.entry)) }
 {
     put_text(&Line(note), notes)
 }

@@ -2,6 +2,7 @@
 ghost use Rattle.std.specs.Prelude.{◌≡◌, ◌≤◌, ◌+◌, ◌++◌, length, codes, decimal, OnOk, OnErr};
 ghost use Rattle.tool_io.specs.Counts.{Rose};
 ghost use Rattle.tool_io.specs.Sink.{append_known, AppendsFront};
+ghost use Rattle.tool_io.specs.Told.{add_told};
 ghost use Rattle.tool_report.specs.RunLines.{event_kind, event_line, moved_line, place_line, slot_line, verdict_name};
 
 use arrayvec::ArrayVec;
@@ -12,7 +13,7 @@ use sp_ids::{ObjId, TaskId};
 use tool_io::{Failed, Sink};
 
 /// Puts the line of an event, a poll or a new object, with the verdict on its group of moves. After `Failed`, which comes only
-/// where the sink's count of faults rose, a front of the line was added.
+/// where the sink's count of faults rose, a front of the line was added. The line is put by one call.
 pub fn event_line<O: Sink>(
     event: u64,
     poll: bool,
@@ -23,6 +24,7 @@ pub fn event_line<O: Sink>(
     ensures err { OnErr result (AppendsFront (O.written out.old) (O.written out.new) (event_line event poll verdict)) }
     ensures failed { OnErr result (Rose (O.faults out.old) (O.faults out.new)) }
     ensures count { O.faults out.old ≤ O.faults out.new }
+    ensures by_one_put { OnOk result (O.puts out.new ≡ add_told (O.puts out.old) (event_line event poll verdict)) }
 {
     out.put(event_text(event, poll, verdict).as_slice())
 }
@@ -33,6 +35,7 @@ pub fn moved_line<O: Sink>(obj: ObjId, old: u64, new: u64, out: &mut O) -> Resul
     ensures err { OnErr result (AppendsFront (O.written out.old) (O.written out.new) (moved_line obj.0 old new)) }
     ensures failed { OnErr result (Rose (O.faults out.old) (O.faults out.new)) }
     ensures count { O.faults out.old ≤ O.faults out.new }
+    ensures by_one_put { OnOk result (O.puts out.new ≡ add_told (O.puts out.old) (moved_line obj.0 old new)) }
 {
     out.put(moved_text(obj.0, old, new).as_slice())
 }
@@ -51,12 +54,13 @@ pub fn slot_line<O: Sink>(
     ensures err { OnErr result (AppendsFront (O.written out.old) (O.written out.new) (slot_line task.0 frame offset old new)) }
     ensures failed { OnErr result (Rose (O.faults out.old) (O.faults out.new)) }
     ensures count { O.faults out.old ≤ O.faults out.new }
+    ensures by_one_put { OnOk result (O.puts out.new ≡ add_told (O.puts out.old) (slot_line task.0 frame offset old new)) }
 {
     out.put(slot_text(task.0, frame, offset, old, new).as_slice())
 }
 
 /// Puts the line that tells where an object stands in the end: the name of its layout, how many elements it has, and its address.
-/// `Failed` as for [`event_line`].
+/// `Failed` as for [`event_line`]. A line of at most 8,192 bytes is put by one call.
 #[tactic(auto, unfolding(crate::specs::RunLines::place_line))]
 pub fn place_line<O: Sink>(
     obj: ObjId,
@@ -69,6 +73,7 @@ pub fn place_line<O: Sink>(
     ensures err { OnErr result (AppendsFront (O.written out.old) (O.written out.new) (place_line obj.0 layout.now count address)) }
     ensures failed { OnErr result (Rose (O.faults out.old) (O.faults out.new)) }
     ensures count { O.faults out.old ≤ O.faults out.new }
+    ensures by_one_put { length (place_line obj.0 layout.now count address) ≤ 8192 → OnOk result (O.puts out.new ≡ add_told (O.puts out.old) (place_line obj.0 layout.now count address)) }
 {
     put_text(
         &(
