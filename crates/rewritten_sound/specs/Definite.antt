@@ -16,9 +16,9 @@ use Rattle.base_forms.specs.Polls.{placed}
 use Rattle.base_forms.specs.Based.{base_table, based_module}
 use Rattle.rewriting_forms.specs.Liveness.{live_table}
 use Rattle.rewriting_forms.specs.Names.{Naming}
-use Rattle.rewriting_forms.specs.Rewritten.{names_of, place_in, rewritten_module, rewritten_with}
+use Rattle.rewriting_forms.specs.Rewritten.{Choice, names_of, place_in, rewritten_module, rewritten_module_by, rewritten_with}
 use Rattle.rewriting_laws.specs.Laws.{Fits, IsNumbering}
-use Rattle.rewriting_laws.specs.Statements.{IsBefore, func_of}
+use Rattle.rewriting_laws.specs.Statements.{HaveFittingNames, IsBefore, IsExact, func_of}
 use Rattle.base_definite.specs.Paths.{HasDefiniteBases}
 use Rattle.base_definite.specs.Relations.{IsReached}
 use Rattle.rewritten_sound.specs.LeadsOut.{PhisAreBare}
@@ -30,6 +30,14 @@ base_tables content number = base_table (placed (func_of content number))
 -- the module that the rewriting gives
 abbrev pub rewritten_source : ModuleContent → ModuleContent
 rewritten_source content = rewritten_module (based_module content) (base_tables content)
+
+-- and the one with a naming chosen for each function
+abbrev pub rewritten_source_by : ModuleContent → Choice → ModuleContent
+rewritten_source_by content choose = rewritten_module_by (based_module content) (base_tables content) choose
+
+-- a choice by which names fit at every edge
+abbrev pub ChoiceFits : ModuleContent → Choice → Type 0
+ChoiceFits content choose = HaveFittingNames (based_module content) (base_tables content) choose
 
 -- a source module each of whose blocks is reached
 pub record IsReachedSource (content : ModuleContent) : Type 0 where
@@ -44,6 +52,12 @@ BasedIsBefore = (content : ModuleContent) → IsReachedSource content → (table
 abbrev pub RewrittenKeepsMeaning : Type 0
 RewrittenKeepsMeaning = (content : ModuleContent) → IsReachedSource content → (input : List ℤ) (go : ℕ → Option ℕ) (bound : ℕ) (outcome : Outcome)
     → SourceGives content input go bound outcome ↔ TargetGives (rewritten_source content) input go bound outcome
+
+-- and so does each under a choice that fits
+abbrev pub FittingKeepsMeaning : Type 0
+FittingKeepsMeaning = (content : ModuleContent) → IsReachedSource content → (choose : Choice) → ChoiceFits content choose
+    → (input : List ℤ) (go : ℕ → Option ℕ) (bound : ℕ) (outcome : Outcome)
+    → SourceGives content input go bound outcome ↔ TargetGives (rewritten_source_by content choose) input go bound outcome
 
 -- a function before liveness, the base of each of its values, and a choice of inserted phis by which names fit at every edge
 pub record HasFittingNames (func : Function) (merged : ℕ → ValueId) (table : List Operand) (naming : Naming) : Type 0 where
@@ -61,3 +75,13 @@ FittingIsDefinite = (func : Function) (merged : ℕ → ValueId) (table : List O
 -- in the rewritten module every path to a use meets the definition before it
 abbrev pub RewrittenIsDefinite : Type 0
 RewrittenIsDefinite = (content : ModuleContent) → IsReachedSource content → All UsesAreDefinite (rewritten_source content).funcs
+
+-- and in each under a choice that fits
+abbrev pub FittingSourceIsDefinite : Type 0
+FittingSourceIsDefinite = (content : ModuleContent) → IsReachedSource content → (choose : Choice) → ChoiceFits content choose
+    → All UsesAreDefinite (rewritten_source_by content choose).funcs
+
+-- in the module with bases the test of liveness is exact, whatever the table
+abbrev pub LiveIsExactThere : Type 0
+LiveIsExactThere = (content : ModuleContent) → IsReachedSource content
+    → All (λ func. (table : List Operand) (b k v : ℕ) → IsExact func table b k v) (based_module content).funcs

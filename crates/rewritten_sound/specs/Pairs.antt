@@ -14,14 +14,14 @@ use Rattle.object_meaning.specs.Lines.{Line}
 use Rattle.rewriting_forms.specs.Liveness.{live_table}
 use Rattle.rewriting_forms.specs.Names.{Naming}
 use Rattle.rewriting_forms.specs.Numbered.{lines_at}
-use Rattle.rewriting_forms.specs.Rewritten.{names_of, place_in, rewritten_with}
+use Rattle.rewriting_forms.specs.Rewritten.{Choice, names_of, place_in, rewritten_with}
 use Rattle.rewriting_laws.specs.Laws.{Fits, IsNumbering, IsPlain}
 use Rattle.base_forms.specs.Polls.{placed}
 use Rattle.base_forms.specs.Based.{base_table, based}
 use Rattle.base_definite.specs.Paths.{HasDefiniteBases}
 use Rattle.base_definite.specs.Relations.{IsReached}
 use Rattle.rewritten_sound.specs.LeadsOut.{PhisAreBare}
-use Rattle.rewritten_sound.specs.Definite.{IsReachedSource, rewritten_source}
+use Rattle.rewritten_sound.specs.Definite.{ChoiceFits, IsReachedSource, rewritten_source, rewritten_source_by}
 use Rattle.pair_facts.specs.Faults.{FaultAt, IsVerified}
 use Rattle.rewritten_sound.specs.Takes.{HasPairs, Takes}
 
@@ -65,3 +65,8 @@ SourceTakesBases = (content : ModuleContent) → IsReachedSource content → All
 -- so its rewritten module is verified
 abbrev pub SourceIsVerified : Type 0
 SourceIsVerified = (content : ModuleContent) → IsReachedSource content → IsVerified (rewritten_source content)
+
+-- and so is each under a choice of names that fit
+abbrev pub FittingSourceIsVerified : Type 0
+FittingSourceIsVerified = (content : ModuleContent) → IsReachedSource content → (choose : Choice) → ChoiceFits content choose
+    → IsVerified (rewritten_source_by content choose)

@@ -1,5 +1,5 @@
 //! The laws that the rewritten function has no fault of the verifier. No code.
-ghost use Rattle.rewritten_sound.specs.Pairs.{BasesHavePairs, FittingIsVerified, SourceIsVerified, SourceTakesBases};
+ghost use Rattle.rewritten_sound.specs.Pairs.{BasesHavePairs, FittingIsVerified, FittingSourceIsVerified, SourceIsVerified, SourceTakesBases};
 
 /// The rewritten function has no fault that the verifier tells, whichever phis are inserted, as long as the names of its relocated
 /// pointers fit at every edge (Garbage Collection Safepoints in LLVM, "Safepoint Semantics & Verification").
@@ -22,4 +22,9 @@ pub fn source_takes_bases()
 /// The rewritten module of a source module without unreached blocks is verified.
 pub fn source_is_verified()
     ensures { SourceIsVerified }
+{}
+
+/// The module under any choice of names that fit is verified.
+pub fn fitting_source_is_verified()
+    ensures { FittingSourceIsVerified }
 {}

@@ -1,10 +1,12 @@
 -- The rewritten module of a source module.
-use Rattle.std.proofs.Common.{◌≡◌, ℕ, suc, Bool, true, false, List, [], ◌∷◌, ◌++◌, length, map, refl, sym, ap, subst, ◌∙◌, append_assoc, arith}
+use Rattle.std.proofs.Common.{◌≡◌, ◌≤◌, ℕ, suc, inl, inr, Bool, true, false, List, [], ◌∷◌, ◌++◌, length, map, refl, sym, ap, subst, ◌∙◌, append_assoc, arith}
 use Rattle.std.specs.Prelude.{Some, slice_get}
 use Rattle.std.specs.List.{AllZip}
+use Rattle.std.proofs.lemmas.Bool.{cases_lt}
 use Rattle.std.proofs.lemmas.List.{length-append}
 use Rattle.std.proofs.lemmas.Option.{get_or_from_slice_get}
 use Rattle.list_laws.proofs.Places.{get_middle}
+use Rattle.list_laws.proofs.Tests.{same_marks}
 use Rattle.ir_ast.specs.declared.ops.Operand.{Operand}
 use Rattle.ir_ast.specs.Funcs.{Function}
 use Rattle.ir_ast.specs.Modules.{ModuleContent}
@@ -24,23 +26,11 @@ use Rattle.rewritten_sound.proofs.pairs.TakesFacts.{source_is_verified}
 use Rattle.rewritten_sound.proofs.shape.TargetLaws.{rewritten_is_target}
 use Rattle.unreached_laws.proofs.MeaningLaws.{unreached_are_no_matter}
 use Rattle.unreached_laws.proofs.ReachedLaws.{unreached_are_gone}
-use Rattle.sp_rewrite.specs.Statements.{RewritingIsByFunction, RewritingIsOne, RewritingIsTarget, RewritingIsVerified, RewritingKeepsMeaning}
+use Rattle.unreached_laws.proofs.MarkLaws.{unreached_can_be_dropped}
+use Rattle.sp_rewrite.specs.Relocates.{FewAreNotMany, FewOrMany, HasFewRelocates, HasManyRelocates, relocates_in}
+use Rattle.sp_rewrite.specs.Statements.{RewritingIsByFunction, RewritingIsOne, RewritingIsTarget, RewritingIsVerified, RewritingKeepsMeaning, SourceIsRewritten}
 
 -- ---- there is one module without unreached blocks
-
-same_marks : (one other : List Bool) → length one ≡ length other → ((k : ℕ) → slice_get one k ≡ Some true → slice_get other k ≡ Some true)
-    → ((k : ℕ) → slice_get other k ≡ Some true → slice_get one k ≡ Some true) → one ≡ other
-same_marks [] [] long forth back = refl
-same_marks [] (b ∷ other) long forth back = absurd (omega (arith, long))
-same_marks (a ∷ one) [] long forth back = absurd (omega (arith, long))
-same_marks (a ∷ one) (b ∷ other) long forth back =
-    ap (λ (x : Bool). x ∷ one) (first a b (λ is. let at : Some b ≡ Some true = forth 0 (ap (λ (x : Bool). Some x) is) in cc) (λ is. let at : Some a ≡ Some true = back 0 (ap (λ (x : Bool). Some x) is) in cc))
-    ∙ ap (λ (rest : List Bool). b ∷ rest) (same_marks one other (omega (arith, long)) (λ k at. forth (suc k) at) (λ k at. back (suc k) at))
-  where
-    first : (a b : Bool) → (a ≡ true → b ≡ true) → (b ≡ true → a ≡ true) → a ≡ b
-    first true b forth back = sym (forth refl)
-    first false true forth back = back refl
-    first false false forth back = refl
 
 one_function : (func one other : Function) → DropsUnreached func one → DropsUnreached func other → one ≡ other
 one_function func one other first second =
@@ -107,3 +97,28 @@ rewriting_is_target content after source is =
 pub rewriting_is_verified : RewritingIsVerified
 rewriting_is_verified content after source is =
     subst IsVerified (sym is.rest) (source_is_verified is.reached (reached_source content is.reached source is.drops))
+
+-- ---- there is one
+
+pub source_is_rewritten : SourceIsRewritten
+source_is_rewritten content source =
+    let left = unreached_can_be_dropped content source in
+    (rewritten_source left.0, record { reached = left.0; drops = left.1; rest = refl })
+
+pub few_or_many : FewOrMany
+few_or_many content source =
+    let left = unreached_can_be_dropped content source in
+    elim (cases_lt 4194304 (relocates_in left.0)) [
+      | inl above ↦ inr (record { reached = left.0; drops = left.1; many = above })
+      | inr within ↦ inl (record { reached = left.0; drops = left.1; few = within })
+    ]
+
+pub few_are_not_many : FewAreNotMany
+few_are_not_many content few many =
+    let same = one_reached content few.reached many.reached few.drops many.drops in
+    let within : relocates_in many.reached ≤ 4194304 = subst (λ (reached : ModuleContent). relocates_in reached ≤ 4194304) same few.few in
+    let above = many.many in
+    absurd (omega arith)
+
+pub few_unless_many : (content : ModuleContent) → IsSourceModule content → ¬ HasManyRelocates content → HasFewRelocates content
+few_unless_many content source not_many = elim (few_or_many content source) [ inl few ↦ few | inr many ↦ absurd (not_many many) ]

@@ -1,3 +1,4 @@
 pub mod Before
 pub mod Relocates
 pub mod Statements
+pub mod Removals

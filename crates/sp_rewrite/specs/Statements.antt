@@ -20,6 +20,10 @@ pub record IsRewritten (content after : ModuleContent) : Type 0 where
   pub drops : ModuleDropsUnreached content reached
   pub rest : after ≡ rewritten_source reached
 
+-- each source module has one
+abbrev pub SourceIsRewritten : Type 0
+SourceIsRewritten = (content : ModuleContent) → IsSourceModule content → (after : ModuleContent) × IsRewritten content after
+
 -- its functions are those of what is left, each rewritten by itself
 abbrev pub RewritingIsByFunction : Type 0
 RewritingIsByFunction = (content after : ModuleContent) → (is : IsRewritten content after)

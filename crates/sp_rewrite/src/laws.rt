@@ -1,5 +1,7 @@
 ghost use Rattle.sp_rewrite.specs.Before.{FunctionsAreReady};
-ghost use Rattle.sp_rewrite.specs.Statements.{RewritingIsByFunction, RewritingIsOne, RewritingIsTarget, RewritingIsVerified, RewritingKeepsMeaning};
+ghost use Rattle.sp_rewrite.specs.Relocates.{FewAreNotMany, FewOrMany};
+ghost use Rattle.sp_rewrite.specs.Removals.{RemovalIsNoMatter, RemovalKeepsAll};
+ghost use Rattle.sp_rewrite.specs.Statements.{RewritingIsByFunction, RewritingIsOne, RewritingIsTarget, RewritingIsVerified, RewritingKeepsMeaning, SourceIsRewritten};
 
 /// A source module has no more than one rewritten module.
 pub fn rewriting_is_one()
@@ -31,4 +33,26 @@ pub fn rewriting_is_verified()
 /// Each function of a module without its unreached blocks can have its polls, then its bases and checks, and then its groups.
 pub fn functions_are_ready()
     ensures { FunctionsAreReady }
+{}
+
+/// Each source module has a rewritten module.
+pub fn source_is_rewritten()
+    ensures { SourceIsRewritten }
+{}
+
+/// A source module has at most 4,194,304 relocates or more, and not both: its rewritten module has so many.
+pub fn relocates_are_few_or_many()
+    ensures either { FewOrMany }
+    ensures apart { FewAreNotMany }
+{}
+
+/// The law of removal: whichever trivial phis are removed from the functions of a source module, what is left gives what the source
+/// gives, its uses are definite, and no line of it has a fault of the verifier.
+pub fn removal_keeps_all()
+    ensures { RemovalKeepsAll }
+{}
+
+/// So one removal more or less is of no matter.
+pub fn removal_is_no_matter()
+    ensures { RemovalIsNoMatter }
 {}

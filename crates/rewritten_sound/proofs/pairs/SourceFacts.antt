@@ -30,14 +30,14 @@ use Rattle.base_definite.specs.Relations.{IsReached, before}
 use Rattle.base_definite.proofs.base_relations.TableInstance.{table_has_bases}
 use Rattle.base_definite.proofs.BasesInstance.{based_has_definite_bases}
 use Rattle.rewriting_forms.specs.Liveness.{live_table}
-use Rattle.rewriting_forms.specs.Names.{naming_of}
-use Rattle.rewriting_forms.specs.Rewritten.{rewritten}
+use Rattle.rewriting_forms.specs.Names.{Naming}
+use Rattle.rewriting_forms.specs.Rewritten.{Choice, rewritten_with}
 use Rattle.rewriting_laws.specs.Laws.{IsPlain}
 use Rattle.rewriting_laws.specs.Related.{IsRewriting}
-use Rattle.rewriting_laws.specs.Statements.{func_of, no_function, rewritings}
-use Rattle.rewriting_laws.proofs.Whole.{modules, now_get}
+use Rattle.rewriting_laws.specs.Statements.{func_of, no_function, rewritings_by}
+use Rattle.rewriting_laws.proofs.Whole.{get_by, modules_by}
 use Rattle.rewritten_sound.specs.LeadsOut.{PhisAreBare}
-use Rattle.rewritten_sound.specs.Definite.{IsReachedSource, base_tables, rewritten_source}
+use Rattle.rewritten_sound.specs.Definite.{ChoiceFits, IsReachedSource, base_tables, rewritten_source_by}
 use Rattle.rewritten_sound.proofs.definite.Instance.{based_is_before, is_ready}
 use Rattle.rewritten_sound.proofs.shape.TargetLaws.{based_is_target}
 use Rattle.pair_facts.specs.Faults.{FaultAt, IsVerified}
@@ -55,9 +55,6 @@ bare_phis func forms b k inst stands one =
     (subst (λ (op : Op). LineOf op inst) (phi_op inst.op one) (all_at IsLine (instructions_of func.blocks) _ inst forms (stands_in_text func b k inst stands))).0.no_bundle
 
 module _ (content : ModuleContent) (is : IsReachedSource content) (number : ℕ) where
-  each : IsRewriting (rewritings (based_module content) (base_tables content)) (rewritings (based_module content) (base_tables content) number)
-  each = (modules (based_module content) (base_tables content) (based_is_before content is (base_tables content))).each number
-
   module _ (func : Function) (found : slice_get content.funcs number ≡ Some func) where
     abbrev made : Function
     made = based (placed func)
@@ -128,27 +125,39 @@ module _ (content : ModuleContent) (is : IsReachedSource content) (number : ℕ)
         (subst (λ (table : List Operand). HasPairs made table (live_table made table)) (sym table_is)
         (bases_have_pairs (based_module content) made before (base_table (placed func)) (register_count (based_module content) number) (typed_bases takes)))
 
-    pub none_there : TakesBases func → (block place code : ℕ) → FaultAt (rewritten (func_of (based_module content) number) (base_tables content number)) block place code → ⊥
-    none_there takes =
-        fitting_is_verified (func_of (based_module content) number) (base_tables content number) (naming_of (func_of (based_module content) number) (base_tables content number)) (register_count (based_module content) number)
-        (record { plain = each.plain; fits = each.fits; numbers = each.numbers; pairs = pairs_there takes })
+module _ (content : ModuleContent) (is : IsReachedSource content) (choose : Choice) (fitting : ChoiceFits content choose) (number : ℕ) where
+  each : IsRewriting (rewritings_by (based_module content) (base_tables content) choose) (rewritings_by (based_module content) (base_tables content) choose number)
+  each = (modules_by (based_module content) (base_tables content) choose (based_is_before content is (base_tables content)) fitting).each number
+
+  abbrev chosen : Function → Naming
+  chosen func = choose number func (base_tables content number)
+
+  abbrev rewritten_there : Function → Function
+  rewritten_there func = rewritten_with func (base_tables content number) (chosen func)
+
+  none_there : (func : Function) → slice_get content.funcs number ≡ Some func → TakesBases func → (block place code : ℕ)
+      → FaultAt (rewritten_there (func_of (based_module content) number)) block place code → ⊥
+  none_there func found takes =
+      fitting_is_verified (func_of (based_module content) number) (base_tables content number) (chosen (func_of (based_module content) number)) (register_count (based_module content) number)
+      (record { plain = each.plain; fits = each.fits; numbers = each.numbers; pairs = pairs_there content is number func found takes })
 
   get_now : (here : Option Function) → slice_get content.funcs number ≡ here
-      → slice_get (rewritten_source content).funcs number ≡ option_map (λ (f : Function). rewritten f (base_tables content number)) (option_map (λ (f : Function). based (placed f)) here)
+      → slice_get (rewritten_source_by content choose).funcs number ≡ option_map (λ (f : Function). rewritten_there f) (option_map (λ (f : Function). based (placed f)) here)
   get_now here found =
-      now_get (based_module content) (base_tables content) (based_is_before content is (base_tables content)) number
-      ∙ ap (option_map (λ (f : Function). rewritten f (base_tables content number))) (found_now content number here found)
+      get_by (based_module content) (base_tables content) choose (based_is_before content is (base_tables content)) fitting number
+      ∙ ap (option_map (λ (f : Function). rewritten_there f)) (found_now content number here found)
 
-  verified_at : (takes : All TakesBases content.funcs) (now : Function) (here : Option Function) → slice_get content.funcs number ≡ here → slice_get (rewritten_source content).funcs number ≡ Some now
+  verified_at : (takes : All TakesBases content.funcs) (now : Function) (here : Option Function) → slice_get content.funcs number ≡ here → slice_get (rewritten_source_by content choose).funcs number ≡ Some now
       → (block place code : ℕ) → FaultAt now block place code → ⊥
   verified_at takes now None none at block place code fault = none-some now (sym (get_now None none) ∙ at)
   verified_at takes now (Some func) found at block place code fault =
       let takes_here = all_at TakesBases content.funcs number func takes found in
-      let same : rewritten (based (placed func)) (base_tables content number) ≡ now = same_Some (rewritten (based (placed func)) (base_tables content number)) now (sym (get_now (Some func) found) ∙ at) in
-      let func_same = func_is func found in
+      let same : rewritten_there (based (placed func)) ≡ now = same_Some (rewritten_there (based (placed func))) now (sym (get_now (Some func) found) ∙ at) in
+      let func_same = func_is content is number func found in
       none_there func found takes_here block place code
-      (subst (λ (f : Function). FaultAt f block place code) (sym (ap (λ (f : Function). rewritten f (base_tables content number)) func_same ∙ same)) fault)
+      (subst (λ (f : Function). FaultAt f block place code) (sym (ap (λ (f : Function). rewritten_there f) func_same ∙ same)) fault)
 
-pub taking_is_verified : (content : ModuleContent) → IsReachedSource content → All TakesBases content.funcs → IsVerified (rewritten_source content)
-taking_is_verified content is takes number block place code func at fault =
-    verified_at content is number takes func (slice_get content.funcs number) refl at block place code fault
+pub taking_is_verified : (content : ModuleContent) → IsReachedSource content → (choose : Choice) → ChoiceFits content choose → All TakesBases content.funcs
+    → IsVerified (rewritten_source_by content choose)
+taking_is_verified content is choose fitting takes number block place code func at fault =
+    verified_at content is choose fitting number takes func (slice_get content.funcs number) refl at block place code fault

@@ -55,7 +55,9 @@ use Rattle.rewritten_sound.proofs.definite.LineLaws.{line_forth, line_from}
 use Rattle.rewritten_sound.proofs.definite.UsedLaws.{uses_operand}
 use Rattle.pair_facts.specs.Lines.{operand_at, same_operand}
 use Rattle.pair_facts.specs.Uses.{Use, accessed_at, checked, checks_access, compared, escaping, is_checked, use_at}
-use Rattle.rewritten_sound.specs.Pairs.{SourceIsVerified, SourceTakesBases, TakesBases}
+use Rattle.rewritten_sound.specs.Pairs.{FittingSourceIsVerified, SourceIsVerified, SourceTakesBases, TakesBases}
+use Rattle.rewriting_forms.specs.Names.{naming_of}
+use Rattle.rewritten_sound.proofs.definite.Instance.{source_fits}
 use Rattle.rewritten_sound.specs.Takes.{IsBased, IsOwn, base_of}
 use Rattle.rewritten_sound.proofs.pairs.BaseFacts.{fits_pointer, underived_own}
 use Rattle.rewritten_sound.proofs.pairs.EscapeFacts.{compared_pointer, compared_type, leaving_map, left_pointer, no_checked, no_compared, no_source_takes, takes_pairs}
@@ -348,5 +350,8 @@ module _ (content : ModuleContent) (is : IsReachedSource content) (number : ℕ)
 pub source_takes_bases : SourceTakesBases
 source_takes_bases content is = all_from_at TakesBases content.funcs (λ number func found. takes_there content is number func found)
 
+pub fitting_source_is_verified : FittingSourceIsVerified
+fitting_source_is_verified content is choose fitting = taking_is_verified content is choose fitting (source_takes_bases content is)
+
 pub source_is_verified : SourceIsVerified
-source_is_verified content is = taking_is_verified content is (source_takes_bases content is)
+source_is_verified content is = fitting_source_is_verified content is (λ g. naming_of) (source_fits content is)

@@ -50,7 +50,7 @@ use Rattle.rewritten_sound.specs.Shape.{HasRoomForGroups, IsTypedBefore, Rewritt
 use Rattle.rewritten_sound.specs.WellFormed.{IsWellFormed, SeesAlike}
 use Rattle.rewritten_sound.proofs.shape.CountLaws.{points_few}
 use Rattle.rewritten_sound.proofs.shape.FunctionLaws.{NoPoint, distinct_labels, distinct_values, has_no_fault, is_typed, is_typed_function, no_tokens}
-use Rattle.rewritten_sound.proofs.shape.NamedLaws.{front_in_text}
+use Rattle.rewritten_sound.proofs.shape.NamedLaws.{naming_in_text}
 use Rattle.rewritten_sound.proofs.shape.PassLaws.{IsNamed}
 
 -- ---- the functions of the module
@@ -164,7 +164,7 @@ module _ (content : ModuleContent) (tables : ℕ → List Operand) (is : IsTyped
       alike = record { sees = sees_alike func (tables g); blocks = blocks_long 0 func.blocks; layouts = refl; functions = funcs_long tables 0 content.funcs };
       fits = subst FitsThere func_is each.fits;
       numbers = subst NumbersThere func_is each.numbers;
-      fronts = λ b v below. front_in_text func (tables g) (suc (length func.blocks)) b v below;
+      fronts = λ b v below. naming_in_text func (tables g) b v below;
       lines = well;
       reached = subst laws.IsReached func_is (is.before.graph g);
       few = room_here.values;

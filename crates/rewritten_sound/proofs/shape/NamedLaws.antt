@@ -1,10 +1,12 @@
 -- A name of the text has the type of its value: in the rewritten function the value with its number has.
-use Rattle.std.proofs.Common.{◌≡◌, ℕ, zero, suc, ◌+◌, ◌<◌, ◌≤◌, Bool, true, false, not, leb, ◌&&◌, if◌then◌else◌, List, [], ◌∷◌, ◌++◌, length, map, take, refl, sym, ap, ◌∙◌, inl, inr, arith}
+use Rattle.std.proofs.Common.{◌≡◌, ℕ, zero, suc, ◌+◌, ◌<◌, ◌≤◌, Bool, true, false, not, ◌&&◌, if◌then◌else◌, List, [], ◌∷◌, ◌++◌, length, map, take, refl, sym, ap, subst, ◌∙◌, inl, inr, arith}
 use Rattle.std.specs.Prelude.{Option, Some, None, is_some, filter, slice_get}
-use Rattle.std.specs.List.{range_with_len}
+use Rattle.std.specs.List.{Contains, range_with_len}
 use Rattle.std.specs.Option.{option_map, option_map_or}
-use Rattle.std.proofs.lemmas.Bool.{and_parts, cases_lt, false≢true}
+use Rattle.std.proofs.lemmas.Bool.{and_from, and_parts, cases_lt, false≢true}
 use Rattle.std.proofs.lemmas.List.{get_or_past, length-append}
+use Rattle.std.proofs.lemmas.Option.{slice_get_within}
+use Rattle.list_laws.proofs.Contents.{contains_image}
 use Rattle.list_laws.proofs.Places.{get_front, get_map, get_some, map_back}
 use Rattle.ir_ast.specs.declared.funcs.Arg.{Arg}
 use Rattle.ir_ast.specs.declared.types.Ty.{Ty}
@@ -16,18 +18,23 @@ use Rattle.ir_ast.specs.Types.{is_pointer}
 use Rattle.ir_ast.specs.Insts.{Instruction}
 use Rattle.ir_ast.specs.Blocks.{BasicBlock}
 use Rattle.ir_ast.specs.Funcs.{Function, instructions_of}
-use Rattle.ir_ast.specs.Values.{Definition, argument, definitions_of, outcome, outcome_type, value_types}
+use Rattle.ir_ast.specs.Values.{Definition, argument, definition_type, definitions_of, outcome, outcome_type, value_types}
 use Rattle.ir_ast.specs.Faults.GroupShape.{number_at}
 use Rattle.ir_cfg.specs.DefiniteUses.{Defines, Stands}
 use Rattle.object_meaning.specs.Lines.{Line}
+use Rattle.phi_webs.specs.Webs.{Phi}
+use Rattle.phi_webs.specs.Becomes.{becomes}
+use Rattle.phi_webs.proofs.BecomesLaws.{becomes_is_removal}
+use Rattle.phi_webs.proofs.RemovalLaws.{settles_at_once}
 use Rattle.rewriting_forms.specs.Numbered.{among, calls, gives, line_at, lines_at, no_line, pointers, preds}
-use Rattle.rewriting_forms.specs.Liveness.{is_live, is_live_after, live_front, live_list}
+use Rattle.rewriting_forms.specs.Liveness.{is_live_after, live_list}
 use Rattle.rewriting_forms.specs.Names as forms
-use Rattle.rewriting_forms.specs.Names.{Name, Names, Naming, arriving, front_within, is_many, joins_of, names_at, names_from, naming_of, own, stands_in_list}
+use Rattle.rewriting_forms.specs.Names.{Name, Names, Naming, arriving, front_within, full_naming, joins_of, least_naming, names_at, names_at_end, names_from, naming_of, own, phi_at, phis_of, same_name}
 use Rattle.rewriting_forms.specs.Rewritten.{Piece, expanded, group, inserted_phi, joined_at, piece_inst, plain, relocate_of, statepoint}
 use Rattle.rewriting_laws.specs.Laws.{IsNumbering, owner_of}
 use Rattle.rewriting_laws.proofs.JumpLemmas.{one_piece}
-use Rattle.rewriting_laws.proofs.LiveLaws.{front_within as live_within}
+use Rattle.rewriting_laws.proofs.NameTests.{tells_names}
+use Rattle.rewriting_laws.proofs.RemovalLaws.{in_web, join_inside, join_pointer, stays_true}
 use Rattle.rewriting_laws.proofs.NameLemmas.{among_filter, call_or_not, filter_among, given_is, is_none, is_one, line_is}
 use Rattle.base_laws.proofs.TypeLaws.{type_of_given}
 use Rattle.base_definite.proofs.base_paths.GivesLaws.{defines_gives, stands_one}
@@ -230,39 +237,73 @@ module _ (func : Function) (table : List Operand) (naming : Naming) where
 
 -- ---- the naming before any inserted phi is removed
 
-in_join : (func : Function) (table : List Operand) (b v : ℕ) → joins_of func table b v ≡ true → (b < length func.blocks) × (among v (pointers func) ≡ true)
-in_join func table b v is =
-    let one = and_parts (is_many (preds func b)) (among v (pointers func) && (stands_in_list func table v && is_live func table b 0 v)) is in
-    let two = and_parts (among v (pointers func)) (stands_in_list func table v && is_live func table b 0 v) one.1 in
-    let three = and_parts (stands_in_list func table v) (is_live func table b 0 v) two.1 in
-    let four = and_parts (leb 0 (length (lines_at func b))) (live_front func table v (suc (length func.blocks)) b) three.1 in
-    (live_within func table v (suc (length func.blocks)) b four.1, two.0)
-
 module _ (func : Function) (table : List Operand) where
-  arrives : (v : ℕ) → v < length (definitions_of func) → (ps : List ℕ) (at_end : ℕ → Names) → ((p : ℕ) → InText func table (naming_of func table) (at_end p v))
-      → InText func table (naming_of func table) (arriving ps at_end v)
-  arrives v below [] at_end each = own_in_text func table (naming_of func table) v below
+  arrives : (v : ℕ) → v < length (definitions_of func) → (ps : List ℕ) (at_end : ℕ → Names) → ((p : ℕ) → InText func table (full_naming func table) (at_end p v))
+      → InText func table (full_naming func table) (arriving ps at_end v)
+  arrives v below [] at_end each = own_in_text func table (full_naming func table) v below
   arrives v below (p ∷ []) at_end each = each p
-  arrives v below (p ∷ q ∷ ps) at_end each = own_in_text func table (naming_of func table) v below
+  arrives v below (p ∷ q ∷ ps) at_end each = own_in_text func table (full_naming func table) v below
 
-  joined_in_text : (b v : ℕ) → joins_of func table b v ≡ true → InText func table (naming_of func table) (forms.joined b v)
-  joined_in_text b v joins = let parts = in_join func table b v joins in a_join b v parts.0 parts.1 joins
+  joined_in_text : (b v : ℕ) → joins_of func table b v ≡ true → InText func table (full_naming func table) (forms.joined b v)
+  joined_in_text b v joins = a_join b v (join_inside func table b v joins) (join_pointer func table b v joins) joins
 
   -- the fronts of the naming stand in the text
-  pub front_in_text : (bound b v : ℕ) → v < length (definitions_of func) → InText func table (naming_of func table) (front_within func table (joins_of func table) bound b v)
+  front_in_text : (bound b v : ℕ) → v < length (definitions_of func) → InText func table (full_naming func table) (front_within func table (joins_of func table) bound b v)
   front_in_text zero b v below = by (joins_of func table b v) refl
     where
-      by : (t : Bool) → joins_of func table b v ≡ t → InText func table (naming_of func table) (if t then forms.joined b v else own v)
+      by : (t : Bool) → joins_of func table b v ≡ t → InText func table (full_naming func table) (if t then forms.joined b v else own v)
       by true joins = joined_in_text b v joins
-      by false apart = own_in_text func table (naming_of func table) v below
+      by false apart = own_in_text func table (full_naming func table) v below
   front_in_text (suc bound) b v below =
       by (joins_of func table b v) refl
       (arrives v below (preds func b) (λ p. names_from func table p (front_within func table (joins_of func table) bound p) (length (lines_at func p)))
-      (λ p. names_in_text func table (naming_of func table) p (front_within func table (joins_of func table) bound p) v (length (lines_at func p)) (front_in_text bound p v below)))
+      (λ p. names_in_text func table (full_naming func table) p (front_within func table (joins_of func table) bound p) v (length (lines_at func p)) (front_in_text bound p v below)))
     where
       by : (t : Bool) → joins_of func table b v ≡ t
-          → InText func table (naming_of func table) (arriving (preds func b) (λ p. names_from func table p (front_within func table (joins_of func table) bound p) (length (lines_at func p))) v)
-          → InText func table (naming_of func table)
+          → InText func table (full_naming func table) (arriving (preds func b) (λ p. names_from func table p (front_within func table (joins_of func table) bound p) (length (lines_at func p))) v)
+          → InText func table (full_naming func table)
           (if t then forms.joined b v else arriving (preds func b) (λ p. names_from func table p (front_within func table (joins_of func table) bound p) (length (lines_at func p))) v)
       by true joins rest = joined_in_text b v joins
       by false apart rest = rest
+
+  -- ---- what is left
+
+  abbrev left : Name → Name
+  left = becomes same_name (phis_of func table)
+
+  pointer_below : (v : ℕ) → among v (pointers func) ≡ true → v < length (definitions_of func)
+  pointer_below v pointer =
+      let given = map_back definition_type (definitions_of func) v Ptr (pointer_is func v pointer) in
+      slice_get_within (definitions_of func) v given.before given.stands
+
+  operand_in_text : (phi : Phi Name) → Contains (phis_of func table) phi → (o : Name) → Contains phi.operands o → InText func table (full_naming func table) o
+  operand_in_text phi has o operand =
+      let at = in_web func table (full_naming func table) phi has in
+      let there : Contains (phi_at func table (full_naming func table) at.b at.v).operands o = subst (λ (p : Phi Name). Contains p.operands o) at.is operand in
+      let from = contains_image (λ p. names_at_end func table (full_naming func table) p at.v) (preds func at.b) o there in
+      let below = pointer_below at.v (join_pointer func table at.b at.v at.joins) in
+      subst (InText func table (full_naming func table)) from.is
+      (names_in_text func table (full_naming func table) from.of ((full_naming func table).front from.of) at.v (length (lines_at func from.of))
+      (front_in_text (suc (length func.blocks)) from.of at.v below))
+
+  -- a name of the text that stays is one of the text of what is left
+  stays_in_text : (name : Name) → InText func table (full_naming func table) name → left name ≡ name → InText func table (least_naming func table) name
+  stays_in_text _ (an_argument v below) stays = an_argument v below
+  stays_in_text _ (a_result b k v line at gives) stays = a_result b k v line at gives
+  stays_in_text _ (a_relocate b k v line at call listed) stays = a_relocate b k v line at call listed
+  stays_in_text _ (a_join b v below pointer joins) stays =
+      a_join b v below pointer
+      (and_from (joins_of func table b v) (same_name (forms.joined b v) (left (forms.joined b v))) joins ((tells_names (forms.joined b v) (left (forms.joined b v))).1 (sym stays)))
+  stays_in_text _ (a_token b k line at call) stays = a_token b k line at call
+
+  left_in_text : (name : Name) → InText func table (full_naming func table) name → InText func table (least_naming func table) (left name)
+  left_in_text name there =
+      let removal = becomes_is_removal same_name tells_names (phis_of func table) in
+      stays_in_text (left name) (stays_true same_name (phis_of func table) (InText func table (full_naming func table)) operand_in_text left removal name there)
+      (settles_at_once same_name tells_names (phis_of func table) left removal name)
+
+  pub least_in_text : (b v : ℕ) → v < length (definitions_of func) → InText func table (least_naming func table) ((least_naming func table).front b v)
+  least_in_text b v below = left_in_text ((full_naming func table).front b v) (front_in_text (suc (length func.blocks)) b v below)
+
+  pub naming_in_text : (b v : ℕ) → v < length (definitions_of func) → InText func table (naming_of func table) ((naming_of func table).front b v)
+  naming_in_text b v below = front_in_text (suc (length func.blocks)) b v below

@@ -29,6 +29,7 @@ use Rattle.rewriting_forms.specs.Numbered.{calls, line_at, lines_at, no_line}
 use Rattle.rewriting_forms.specs.Liveness.{live_list}
 use Rattle.rewriting_forms.specs.Names as forms
 use Rattle.rewriting_forms.specs.Names.{Name, Naming, own}
+use Rattle.rewriting_laws.proofs.NameTests.{same_itself}
 use Rattle.rewriting_forms.specs.Rewritten.{Piece, block_names, is_joined, is_relocated, is_token, joined_at, line_names, names_of, old_name, piece_inst, place_in, rewritten_blocks, same_name}
 use Rattle.rewriting_laws.proofs.ApartLaws.{names_apart}
 use Rattle.rewriting_laws.proofs.NameLemmas.{line_is}
@@ -176,12 +177,6 @@ module _ (func : Function) (table : List Operand) (naming : Naming) where
 
 -- ---- places among the names of a kind
 
-same_self : (name : Name) → same_name name name ≡ true
-same_self (own v) = eq-eqb v v refl
-same_self (forms.relocated b k v) = rw (eq-eqb b b refl, eq-eqb k k refl, eq-eqb v v refl) refl
-same_self (forms.joined b v) = rw (eq-eqb b b refl, eq-eqb v v refl) refl
-same_self (forms.token b k) = rw (eq-eqb b b refl, eq-eqb k k refl) refl
-
 apart_rest : (x : Name) (names : List Name) → Apart (x ∷ names) → Apart names
 apart_rest x names apart i j one other below one_at other_at = apart (suc i) (suc j) one other (omega arith) one_at other_at
 
@@ -192,7 +187,7 @@ filtered_place test [] i name apart at passes = absurd cc
 filtered_place test (x ∷ names) zero name apart at passes =
     let same : x ≡ name = cc in
     ap (λ t. place_in (if t then x ∷ filter test names else filter test names) name) (ap test same ∙ passes)
-    ∙ ap (λ t. if t then 0 else suc (place_in (filter test names) name)) (ap (λ n. same_name n name) same ∙ same_self name)
+    ∙ ap (λ t. if t then 0 else suc (place_in (filter test names) name)) (ap (λ n. same_name n name) same ∙ same_itself name)
 filtered_place test (x ∷ names) (suc i) name apart at passes = by (test x) (filtered_place test names i name (apart_rest x names apart) at passes)
   where
     by : (t : Bool) → place_in (filter test names) name ≡ length (filter test (take i names))
