@@ -1,8 +1,6 @@
 -- The law of removal, at a source module.
 use Rattle.std.specs.Prelude.{◌≡◌, ◌↔◌, ℕ, ℤ, List, Option}
 use Rattle.std.specs.List.{All}
-use Rattle.ir_ast.specs.declared.ops.Operand.{Operand}
-use Rattle.ir_ast.specs.Funcs.{Function}
 use Rattle.ir_ast.specs.Modules.{ModuleContent}
 use Rattle.ir_cfg.specs.DefiniteUses.{UsesAreDefinite}
 use Rattle.ir_cfg.specs.SourceModules.{IsSourceModule}

@@ -1,3 +1,5 @@
+//! Why a module isn't rewritten.
+
 use sp_ids::Memory;
 
 /// Why a module isn't rewritten.

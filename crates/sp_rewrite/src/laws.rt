@@ -1,3 +1,5 @@
+//! The laws of the rewritten module. No code.
+
 ghost use Rattle.sp_rewrite.specs.Before.{FunctionsAreReady};
 ghost use Rattle.sp_rewrite.specs.Relocates.{FewAreNotMany, FewOrMany};
 ghost use Rattle.sp_rewrite.specs.Removals.{RemovalIsNoMatter, RemovalKeepsAll};
