@@ -45,7 +45,7 @@ fn show_case(rt: &HostRuntime, line: &str) -> Result<()> {
     Ok(())
 }
 
-fn listed(alloc: Global, words: &str) -> Result<Vec<String>, AllocError> {
+pub(crate) fn listed(alloc: Global, words: &str) -> Result<Vec<String>, AllocError> {
     let mut list = Vec::new(alloc);
     for word in words.split_whitespace() {
         list.push(String::from_str(alloc, word)?)?;
@@ -66,7 +66,7 @@ fn number(setting: &str, name: &str) -> Option<u64> {
 }
 
 // The bytes of the file that is set under this name, or none.
-fn set_bytes(rt: &HostRuntime, setting: &str, name: &str) -> Result<Vec<u8>> {
+pub(crate) fn set_bytes(rt: &HostRuntime, setting: &str, name: &str) -> Result<Vec<u8>> {
     let alloc = rt.alloc();
     match set(setting, name) {
         Some(file) => Ok(DiskFiles::new(rt).take(alloc, file, FILE_BYTES)?),

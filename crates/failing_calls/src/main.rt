@@ -6,12 +6,14 @@ mod adapters;
 mod cases;
 mod memory;
 mod shown;
+mod sure;
 
 use anyhow::Result;
 
 fn main(rt: HostRuntime) -> Result<()> {
     let alloc = rt.alloc();
     cases::show(&rt)?;
+    sure::show(&rt)?;
     memory::show_sink(&rt, alloc)?;
     memory::show_files(&rt, alloc)?;
     memory::show_sure(&rt, alloc)?;

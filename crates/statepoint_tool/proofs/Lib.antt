@@ -16,5 +16,7 @@ pub mod AnswerLaws
 pub mod CompleteLaws
 pub mod AcceptedLaws
 pub mod HeadlineLaws
+pub mod FactLaws
+pub mod SureLaws
 pub mod PassLaws
 pub mod CommandLaws

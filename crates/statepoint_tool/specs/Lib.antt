@@ -5,6 +5,7 @@ pub mod Closings
 pub mod PlanFaults
 pub mod Runners
 pub mod Work
+pub mod Named
 pub mod Notes
 pub mod Answers
 pub mod Causes
@@ -13,3 +14,4 @@ pub mod Complete
 pub mod Headline
 pub mod Passes
 pub mod Commands
+pub mod Facts

@@ -1,7 +1,9 @@
 //! Rewritten modules that are verified.
-ghost use Rattle.std.specs.Prelude.{◌≡◌, ◌≤◌, length, IfOk};
+ghost use Rattle.std.specs.Prelude.{◌≡◌, ◌≤◌, ◌∷◌, length, IfOk, [], OnOk};
 ghost use Rattle.ir_cfg.specs.TargetModules.{IsTargetModule};
 ghost use Rattle.tool_io.specs.Counts.{NoneFell};
+ghost use Rattle.tool_io.specs.Takes.{TakesFirst};
+ghost use Rattle.tool_io.specs.Told.{append_told};
 ghost use Rattle.statepoint_tool.specs.Answers.{Agrees, Came, Reads, Works, sink_seen};
 ghost use Rattle.statepoint_tool.specs.Taken.{files_seen};
 ghost use Rattle.statepoint_tool.specs.Work.{Judging, MayGiveShown, after_check, check_work, checked_phase};
@@ -28,6 +30,8 @@ pub(crate) fn check<F: Files, O: Sink>(
         (sink_seen (O.written out.old) (O.written out.new) (O.faults out.old) (O.faults out.new)) }
     ensures kept { F.contents files.new ≡ F.contents files.old }
     ensures counted { NoneFell (F.faults files.old) (F.faults files.new) }
+    ensures takes_first { TakesFirst (name ∷ []) (F.taken files.old) (F.taken files.new) }
+    ensures takes_all { OnOk result (F.taken files.new ≡ append_told (F.taken files.old) (name ∷ [])) }
     ensures out_counted { O.faults out.old ≤ O.faults out.new }
 {
     let checked = take_checked(alloc, files, name)?;
@@ -42,6 +46,8 @@ fn take_checked<F: Files>(alloc: Global, files: &mut F, name: FileName) -> Resul
         checked_phase (λ checked. checked) result }
     ensures kept { F.contents files.new ≡ F.contents files.old }
     ensures counted { NoneFell (F.faults files.old) (F.faults files.new) }
+    ensures takes_first { TakesFirst (name ∷ []) (F.taken files.old) (F.taken files.new) }
+    ensures takes_all { OnOk result (F.taken files.new ≡ append_told (F.taken files.old) (name ∷ [])) }
 {
     let text = take(alloc, files, name)?;
     checked_in(alloc, &text)

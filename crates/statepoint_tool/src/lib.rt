@@ -17,6 +17,7 @@ mod run;
 mod runner;
 mod show;
 mod status;
+mod sure;
 mod top;
 
 pub use laws::plans_are_free;
@@ -24,5 +25,6 @@ pub use passes::{
     accepted_texts_pass, rewritten_texts_pass, verifier_refuses_none, written_texts_are_ok,
 };
 pub use status::Status;
+pub use sure::statepoint_surely;
 pub use tool_words::{Command, FileName, WordsFault, command};
 pub use top::statepoint;

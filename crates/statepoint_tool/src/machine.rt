@@ -1,5 +1,5 @@
 //! Runs of a rewritten module on the address machine, over its own stack map or over one that is taken.
-ghost use Rattle.std.specs.Prelude.{◌≡◌, ◌≤◌, IfOk, IsErrOf};
+ghost use Rattle.std.specs.Prelude.{◌≡◌, ◌≤◌, ◌∷◌, IfOk, IsErrOf, [], OnOk};
 ghost use Rattle.std.specs.List.{All};
 ghost use Rattle.ir_ast.specs.Bundles.{HasNoBundle};
 ghost use Rattle.ir_cfg.specs.TargetModules.{IsTargetModule};
@@ -8,6 +8,9 @@ ghost use Rattle.ir_machine.specs.Answers.{IsRun, WritesFront};
 ghost use Rattle.map_bytes.specs.Faults.{IsFirstFault};
 ghost use Rattle.map_bytes.specs.declared.rules.MapFault.{MapFault};
 ghost use Rattle.tool_io.specs.Counts.{NoneFell, Rose};
+ghost use Rattle.tool_io.specs.Takes.{TakesFirst};
+ghost use Rattle.tool_io.specs.Told.{append_told};
+ghost use Rattle.statepoint_tool.specs.Named.{file_named};
 ghost use Rattle.statepoint_tool.specs.Answers.{Came, Works, sink_seen};
 ghost use Rattle.statepoint_tool.specs.Runners.{module_in};
 ghost use Rattle.statepoint_tool.specs.Steps.{Go, Then, comes_to};
@@ -48,6 +51,8 @@ pub(crate) fn run_on_machine<F: Files, O: Sink>(
         (sink_seen (O.written out.old) (O.written out.new) (O.faults out.old) (O.faults out.new)) }
     ensures kept { F.contents files.new ≡ F.contents files.old }
     ensures counted { NoneFell (F.faults files.old) (F.faults files.new) }
+    ensures takes_first { TakesFirst (file_named «map») (F.taken files.old) (F.taken files.new) }
+    ensures takes_all { OnOk result (F.taken files.new ≡ append_told (F.taken files.old) (file_named «map»)) }
     ensures out_counted { O.faults out.old ≤ O.faults out.new }
 {
     match map {
@@ -93,6 +98,8 @@ fn run_over_file<F: Files, O: Sink>(
         (sink_seen (O.written out.old) (O.written out.new) (O.faults out.old) (O.faults out.new)) }
     ensures kept { F.contents files.new ≡ F.contents files.old }
     ensures counted { NoneFell (F.faults files.old) (F.faults files.new) }
+    ensures takes_first { TakesFirst (name ∷ []) (F.taken files.old) (F.taken files.new) }
+    ensures takes_all { OnOk result (F.taken files.new ≡ append_told (F.taken files.old) (name ∷ [])) }
     ensures out_counted { O.faults out.old ≤ O.faults out.new }
 {
     let bytes = take(alloc, files, name)?;

@@ -1,6 +1,8 @@
 //! The phases that take a file and read it.
-ghost use Rattle.std.specs.Prelude.{◌≡◌, ◌≤◌, ℕ, List, length, map, vec_len, IfOk};
+ghost use Rattle.std.specs.Prelude.{◌≡◌, ◌≤◌, ◌∷◌, ℕ, List, length, map, vec_len, IfOk, [], OnOk};
 ghost use Rattle.tool_io.specs.Counts.{NoneFell};
+ghost use Rattle.tool_io.specs.Takes.{TakesFirst};
+ghost use Rattle.tool_io.specs.Told.{append_told};
 ghost use Rattle.std.specs.List.{All};
 ghost use Rattle.ir_ast.specs.Bundles.{HasNoBundle};
 ghost use Rattle.ir_ast.specs.Formed.{IsFormedModule};
@@ -36,6 +38,8 @@ pub(crate) fn take<F: Files>(
     ensures bound { IfOk result (λ bytes. vec_len bytes ≤ 16777216) }
     ensures kept { F.contents files.new ≡ F.contents files.old }
     ensures counted { NoneFell (F.faults files.old) (F.faults files.new) }
+    ensures takes_first { TakesFirst (name ∷ []) (F.taken files.old) (F.taken files.new) }
+    ensures takes_all { OnOk result (F.taken files.new ≡ append_told (F.taken files.old) (name ∷ [])) }
 {
     match files.take(alloc, name.as_str(), limits::FILE_BYTES) {
         Ok(bytes) => Ok(bytes),
@@ -59,6 +63,8 @@ pub(crate) fn take_module<F: Files>(
     ensures no_bundle { IfOk result (λ read. All HasNoBundle read.content.funcs) }
     ensures kept { F.contents files.new ≡ F.contents files.old }
     ensures counted { NoneFell (F.faults files.old) (F.faults files.new) }
+    ensures takes_first { TakesFirst (name ∷ []) (F.taken files.old) (F.taken files.new) }
+    ensures takes_all { OnOk result (F.taken files.new ≡ append_told (F.taken files.old) (name ∷ [])) }
 {
     let text = take(alloc, files, name)?;
     module_in(alloc, form, &text)
@@ -74,6 +80,8 @@ pub(crate) fn take_input<F: Files>(
         ReadingInput (λ numbers. numbers.items) result }
     ensures kept { F.contents files.new ≡ F.contents files.old }
     ensures counted { NoneFell (F.faults files.old) (F.faults files.new) }
+    ensures takes_first { TakesFirst (name ∷ []) (F.taken files.old) (F.taken files.new) }
+    ensures takes_all { OnOk result (F.taken files.new ≡ append_told (F.taken files.old) (name ∷ [])) }
 {
     let text = take(alloc, files, name)?;
     input_in(alloc, &text)
@@ -89,6 +97,8 @@ pub(crate) fn take_plan<F: Files>(
         ReadingPlan (λ plan. plan) result }
     ensures kept { F.contents files.new ≡ F.contents files.old }
     ensures counted { NoneFell (F.faults files.old) (F.faults files.new) }
+    ensures takes_first { TakesFirst (name ∷ []) (F.taken files.old) (F.taken files.new) }
+    ensures takes_all { OnOk result (F.taken files.new ≡ append_told (F.taken files.old) (name ∷ [])) }
 {
     let text = take(alloc, files, name)?;
     plan_in(alloc, &text)

@@ -1,5 +1,5 @@
 //! The commands that write of a rewritten module.
-ghost use Rattle.std.specs.Prelude.{◌≡◌, ◌≤◌, IfOk};
+ghost use Rattle.std.specs.Prelude.{◌≡◌, ◌≤◌, ◌∷◌, IfOk, [], OnOk};
 ghost use Rattle.std.specs.List.{All};
 ghost use Rattle.ir_ast.specs.Bundles.{HasNoBundle};
 ghost use Rattle.ir_ast.specs.Formed.{IsFormedModule};
@@ -8,6 +8,8 @@ ghost use Rattle.ir_cfg.specs.TargetModules.{IsTargetModule};
 ghost use Rattle.sp_rewrite.specs.Relocates.{HasFewRelocates};
 ghost use Rattle.sp_rewrite.specs.Statements.{IsRewritten};
 ghost use Rattle.tool_io.specs.Counts.{NoneFell};
+ghost use Rattle.tool_io.specs.Takes.{TakesFirst};
+ghost use Rattle.tool_io.specs.Told.{append_told};
 ghost use Rattle.statepoint_tool.specs.Answers.{Agrees, Came, Works, sink_seen};
 ghost use Rattle.statepoint_tool.specs.Taken.{files_seen};
 ghost use Rattle.statepoint_tool.specs.Work.{MayGiveShown, Rewriting, after_rewriting, rewrite_phase, rewrite_work};
@@ -37,6 +39,8 @@ pub(crate) fn rewrite<F: Files, O: Sink>(
         (sink_seen (O.written out.old) (O.written out.new) (O.faults out.old) (O.faults out.new)) }
     ensures kept { F.contents files.new ≡ F.contents files.old }
     ensures counted { NoneFell (F.faults files.old) (F.faults files.new) }
+    ensures takes_first { TakesFirst (name ∷ []) (F.taken files.old) (F.taken files.new) }
+    ensures takes_all { OnOk result (F.taken files.new ≡ append_told (F.taken files.old) (name ∷ [])) }
     ensures out_counted { O.faults out.old ≤ O.faults out.new }
 {
     let read = take_module(alloc, Form::Source, files, name)?;

@@ -1,9 +1,12 @@
 //! The commands `source`, `run` and `exec`: the module, the input and the plan are taken in this order, then it runs, or its
 //! rewritten module does.
-ghost use Rattle.std.specs.Prelude.{◌≡◌, ◌≤◌, ℕ, IfOk, OnErr, IsErrOf};
+ghost use Rattle.std.specs.Prelude.{◌≡◌, ◌≤◌, ◌∷◌, ℕ, IfOk, OnErr, IsErrOf, [], OnOk};
 ghost use Rattle.ir_ast.specs.Modules.{ModuleContent};
 ghost use Rattle.ir_cfg.specs.SourceModules.{IsSourceModule};
 ghost use Rattle.tool_io.specs.Counts.{NoneFell, Rose};
+ghost use Rattle.tool_io.specs.Takes.{TakesFirst};
+ghost use Rattle.tool_io.specs.Told.{append_told};
+ghost use Rattle.statepoint_tool.specs.Named.{files_of_map, files_of_run};
 ghost use Rattle.statepoint_tool.specs.Answers.{Came, IsBegun, IsDone, Works, sink_seen};
 ghost use Rattle.statepoint_tool.specs.Steps.{Go};
 ghost use Rattle.statepoint_tool.specs.Taken.{files_seen};
@@ -37,6 +40,8 @@ pub(crate) fn run<F: Files, O: Sink>(
         (sink_seen (O.written out.old) (O.written out.new) (O.faults out.old) (O.faults out.new)) }
     ensures kept { F.contents files.new ≡ F.contents files.old }
     ensures counted { NoneFell (F.faults files.old) (F.faults files.new) }
+    ensures takes_first { TakesFirst (files_of_run engine request) (F.taken files.old) (F.taken files.new) }
+    ensures takes_all { OnOk result (F.taken files.new ≡ append_told (F.taken files.old) (files_of_run engine request)) }
     ensures out_counted { O.faults out.old ≤ O.faults out.new }
 {
     let RunRequest {
@@ -67,6 +72,8 @@ fn run_module<F: Files, O: Sink>(
         (sink_seen (O.written out.old) (O.written out.new) (O.faults out.old) (O.faults out.new)) }
     ensures kept { F.contents files.new ≡ F.contents files.old }
     ensures counted { NoneFell (F.faults files.old) (F.faults files.new) }
+    ensures takes_first { TakesFirst (input ∷ plan ∷ files_of_map (engine_of runner)) (F.taken files.old) (F.taken files.new) }
+    ensures takes_all { OnOk result (F.taken files.new ≡ append_told (F.taken files.old) (input ∷ plan ∷ files_of_map (engine_of runner))) }
     ensures out_counted { O.faults out.old ≤ O.faults out.new }
 {
     let numbers = take_input(alloc, files, input)?;
@@ -90,6 +97,8 @@ fn run_with_input<F: Files, O: Sink>(
         (sink_seen (O.written out.old) (O.written out.new) (O.faults out.old) (O.faults out.new)) }
     ensures kept { F.contents files.new ≡ F.contents files.old }
     ensures counted { NoneFell (F.faults files.old) (F.faults files.new) }
+    ensures takes_first { TakesFirst (plan ∷ files_of_map (engine_of runner)) (F.taken files.old) (F.taken files.new) }
+    ensures takes_all { OnOk result (F.taken files.new ≡ append_told (F.taken files.old) (plan ∷ files_of_map (engine_of runner))) }
     ensures out_counted { O.faults out.old ≤ O.faults out.new }
 {
     let lines = take_plan(alloc, files, plan)?;
@@ -113,6 +122,8 @@ fn run_under_plan<F: Files, O: Sink>(
         (sink_seen (O.written out.old) (O.written out.new) (O.faults out.old) (O.faults out.new)) }
     ensures kept { F.contents files.new ≡ F.contents files.old }
     ensures counted { NoneFell (F.faults files.old) (F.faults files.new) }
+    ensures takes_first { TakesFirst (files_of_map (engine_of runner)) (F.taken files.old) (F.taken files.new) }
+    ensures takes_all { OnOk result (F.taken files.new ≡ append_told (F.taken files.old) (files_of_map (engine_of runner))) }
     ensures out_counted { O.faults out.old ≤ O.faults out.new }
 {
     match runner {

@@ -1,11 +1,11 @@
 //! The top call.
-ghost use Rattle.std.specs.Prelude.{◌≡◌, ◌≤◌, ◌⊎◌, ℕ, List, map, string_bytes};
+ghost use Rattle.std.specs.Prelude.{◌≡◌, ◌≤◌, Err, OnOk, map, string_bytes};
 ghost use Rattle.tool_io.specs.Counts.{NoneFell};
-ghost use Rattle.statepoint_tool.specs.Answers.{SinkFailed, IsAnswer, IsTold, Works, sink_seen};
-ghost use Rattle.statepoint_tool.specs.Causes.{CannotRead, EndsWith, HasSomeCheckFault, HasSomeInputFault, HasSomeMapFault, HasSomeModuleFault, HasSomePlanFault, IsTooLong, NoCommand};
-ghost use Rattle.statepoint_tool.specs.Complete.{IsComplete};
-ghost use Rattle.statepoint_tool.specs.Headline.{IsHeadline, RunsVerified, StrayIsAsked};
-ghost use Rattle.statepoint_tool.specs.Statuses.{Exactly, ReadFaultCounted, Says, Writes};
+ghost use Rattle.tool_io.specs.Takes.{TakesFirst};
+ghost use Rattle.tool_io.specs.Told.{append_told};
+ghost use Rattle.statepoint_tool.specs.Answers.{IsAnswer, IsTold, Works, sink_seen};
+ghost use Rattle.statepoint_tool.specs.Facts.{Facts};
+ghost use Rattle.statepoint_tool.specs.Named.{TakesNamed, files_named};
 ghost use Rattle.statepoint_tool.specs.Taken.{files_seen};
 ghost use Rattle.tool_words.specs.Words.{command_of};
 ghost use Rattle.statepoint_tool.specs.Work.{MayGiveNamed, work as work_of};
@@ -43,7 +43,8 @@ use tool_words::{Command, WordsFault, command};
 ///
 /// What the files gave is what is told of them, or anything where nothing is told; a file could not be
 /// read only where a fault was counted for its name. Each status comes exactly where its cause holds over
-/// that, and yields to want of memory and to a failed sink alone.
+/// that, and yields to want of memory and to a failed sink alone. Each file that the words name is taken once,
+/// in the order of work, and no other file is.
 pub fn statepoint<F: Files, O: Sink, E: Sink>(
     alloc: Global,
     words: &[String],
@@ -51,107 +52,12 @@ pub fn statepoint<F: Files, O: Sink, E: Sink>(
     out: &mut O,
     notes: &mut E,
 ) -> Status
-    // The headline. For every module text that the profile accepts, every input, plan and bound, `run` writes what the source
-    // meaning prints on objects that never move, and ends with its return, trap or want of steps. This is also the address
-    // machine's run of the emitted module, whose frames are found through the emitted map bytes, under that plan, with its trace and
-    // the places of its objects where they are asked for; no moved-away address is read.
-    ensures headline { IsHeadline (map string_bytes words.now)
+    ensures facts { Facts (map string_bytes words.now)
         (files_seen (F.contents files.old) (F.faults files.old) (F.faults files.new))
         (sink_seen (O.written out.old) (O.written out.new) (O.faults out.old) (O.faults out.new))
         (sink_seen (E.written notes.old) (E.written notes.new) (E.faults notes.old) (E.faults notes.new))
         result }
-    // What the verifier's yes means: `exec` of a module without a fault, over its own map, writes what the target meaning prints
-    // on objects that never move, whatever the plan moves; and only a run that is trusted, or over a given map, goes astray.
-    ensures verified_runs { RunsVerified (map string_bytes words.now)
-        (files_seen (F.contents files.old) (F.faults files.old) (F.faults files.new))
-        (sink_seen (O.written out.old) (O.written out.new) (O.faults out.old) (O.faults out.new))
-        (sink_seen (E.written notes.old) (E.written notes.new) (E.faults notes.old) (E.faults notes.new))
-        result }
-    ensures stray_asked { StrayIsAsked (map string_bytes words.now) result }
-
-    // Told files without fault, and no fault counted: the whole text that is defined, the module's or the run's, with its
-    // status and nothing said; or want of memory after a front of that text.
-    ensures complete { IsComplete (map string_bytes words.now)
-        (files_seen (F.contents files.old) (F.faults files.old) (F.faults files.new))
-        (sink_seen (O.written out.old) (O.written out.new) (O.faults out.old) (O.faults out.new))
-        (sink_seen (E.written notes.old) (E.written notes.new) (E.faults notes.old) (E.faults notes.new))
-        result }
-
-    // Each status with its cause.
-    ensures done { Exactly (map string_bytes words.now)
-        (files_seen (F.contents files.old) (F.faults files.old) (F.faults files.new))
-        (sink_seen (O.written out.old) (O.written out.new) (O.faults out.old) (O.faults out.new))
-        (sink_seen (E.written notes.old) (E.written notes.new) (E.faults notes.old) (E.faults notes.new))
-        result Status.Done (EndsWith Status.Done) }
-    ensures out_of_steps { Exactly (map string_bytes words.now)
-        (files_seen (F.contents files.old) (F.faults files.old) (F.faults files.new))
-        (sink_seen (O.written out.old) (O.written out.new) (O.faults out.old) (O.faults out.new))
-        (sink_seen (E.written notes.old) (E.written notes.new) (E.faults notes.old) (E.faults notes.new))
-        result Status.OutOfSteps (EndsWith Status.OutOfSteps) }
-    ensures trapped { Exactly (map string_bytes words.now)
-        (files_seen (F.contents files.old) (F.faults files.old) (F.faults files.new))
-        (sink_seen (O.written out.old) (O.written out.new) (O.faults out.old) (O.faults out.new))
-        (sink_seen (E.written notes.old) (E.written notes.new) (E.faults notes.old) (E.faults notes.new))
-        result Status.Trapped (EndsWith Status.Trapped) }
-    ensures stray { Exactly (map string_bytes words.now)
-        (files_seen (F.contents files.old) (F.faults files.old) (F.faults files.new))
-        (sink_seen (O.written out.old) (O.written out.new) (O.faults out.old) (O.faults out.new))
-        (sink_seen (E.written notes.old) (E.written notes.new) (E.faults notes.old) (E.faults notes.new))
-        result Status.Stray (EndsWith Status.Stray) }
-    ensures words_refused { Exactly (map string_bytes words.now)
-        (files_seen (F.contents files.old) (F.faults files.old) (F.faults files.new))
-        (sink_seen (O.written out.old) (O.written out.new) (O.faults out.old) (O.faults out.new))
-        (sink_seen (E.written notes.old) (E.written notes.new) (E.faults notes.old) (E.faults notes.new))
-        result Status.WordsRefused NoCommand }
-    ensures module_refused { Exactly (map string_bytes words.now)
-        (files_seen (F.contents files.old) (F.faults files.old) (F.faults files.new))
-        (sink_seen (O.written out.old) (O.written out.new) (O.faults out.old) (O.faults out.new))
-        (sink_seen (E.written notes.old) (E.written notes.new) (E.faults notes.old) (E.faults notes.new))
-        result Status.ModuleRefused HasSomeModuleFault }
-    ensures input_refused { Exactly (map string_bytes words.now)
-        (files_seen (F.contents files.old) (F.faults files.old) (F.faults files.new))
-        (sink_seen (O.written out.old) (O.written out.new) (O.faults out.old) (O.faults out.new))
-        (sink_seen (E.written notes.old) (E.written notes.new) (E.faults notes.old) (E.faults notes.new))
-        result Status.InputRefused HasSomeInputFault }
-    ensures plan_refused { Exactly (map string_bytes words.now)
-        (files_seen (F.contents files.old) (F.faults files.old) (F.faults files.new))
-        (sink_seen (O.written out.old) (O.written out.new) (O.faults out.old) (O.faults out.new))
-        (sink_seen (E.written notes.old) (E.written notes.new) (E.faults notes.old) (E.faults notes.new))
-        result Status.PlanRefused HasSomePlanFault }
-    ensures map_refused { Exactly (map string_bytes words.now)
-        (files_seen (F.contents files.old) (F.faults files.old) (F.faults files.new))
-        (sink_seen (O.written out.old) (O.written out.new) (O.faults out.old) (O.faults out.new))
-        (sink_seen (E.written notes.old) (E.written notes.new) (E.faults notes.old) (E.faults notes.new))
-        result Status.MapRefused HasSomeMapFault }
-    ensures said_no { Exactly (map string_bytes words.now)
-        (files_seen (F.contents files.old) (F.faults files.old) (F.faults files.new))
-        (sink_seen (O.written out.old) (O.written out.new) (O.faults out.old) (O.faults out.new))
-        (sink_seen (E.written notes.old) (E.written notes.new) (E.faults notes.old) (E.faults notes.new))
-        result Status.CheckSaidNo HasSomeCheckFault }
-    ensures too_long { Exactly (map string_bytes words.now)
-        (files_seen (F.contents files.old) (F.faults files.old) (F.faults files.new))
-        (sink_seen (O.written out.old) (O.written out.new) (O.faults out.old) (O.faults out.new))
-        (sink_seen (E.written notes.old) (E.written notes.new) (E.faults notes.old) (E.faults notes.new))
-        result Status.TooLong IsTooLong }
-    ensures read_fault { Exactly (map string_bytes words.now)
-        (files_seen (F.contents files.old) (F.faults files.old) (F.faults files.new))
-        (sink_seen (O.written out.old) (O.written out.new) (O.faults out.old) (O.faults out.new))
-        (sink_seen (E.written notes.old) (E.written notes.new) (E.faults notes.old) (E.faults notes.new))
-        result Status.ReadFault CannotRead }
-    ensures read_fault_counted { result ≡ Status.ReadFault → ReadFaultCounted (map string_bytes words.now)
-        (files_seen (F.contents files.old) (F.faults files.old) (F.faults files.new)) }
-    ensures write_fault_counted { result ≡ Status.WriteFault →
-        SinkFailed (sink_seen (O.written out.old) (O.written out.new) (O.faults out.old) (O.faults out.new)) ⊎
-        SinkFailed (sink_seen (E.written notes.old) (E.written notes.new) (E.faults notes.old) (E.faults notes.new)) }
-
-    // What the call leaves.
-    ensures writes { Writes result (map string_bytes words.now)
-        (files_seen (F.contents files.old) (F.faults files.old) (F.faults files.new))
-        (sink_seen (O.written out.old) (O.written out.new) (O.faults out.old) (O.faults out.new)) }
-    ensures says { Says result (map string_bytes words.now)
-        (files_seen (F.contents files.old) (F.faults files.old) (F.faults files.new))
-        (sink_seen (O.written out.old) (O.written out.new) (O.faults out.old) (O.faults out.new))
-        (sink_seen (E.written notes.old) (E.written notes.new) (E.faults notes.old) (E.faults notes.new)) }
+    ensures takes { TakesNamed (map string_bytes words.now) (F.taken files.old) (F.taken files.new) result }
     ensures kept { F.contents files.new ≡ F.contents files.old }
 {
     answer(alloc, words, files, out, notes)
@@ -172,6 +78,7 @@ fn answer<F: Files, O: Sink, E: Sink>(
         result }
     ensures kept { F.contents files.new ≡ F.contents files.old }
     ensures counted { NoneFell (F.faults files.old) (F.faults files.new) }
+    ensures takes { TakesNamed (map string_bytes words.now) (F.taken files.old) (F.taken files.new) result }
     ensures out_counted { O.faults out.old ≤ O.faults out.new }
     ensures notes_counted { E.faults notes.old ≤ E.faults notes.new }
 {
@@ -191,6 +98,8 @@ fn work<F: Files, O: Sink>(
         (sink_seen (O.written out.old) (O.written out.new) (O.faults out.old) (O.faults out.new)) }
     ensures kept { F.contents files.new ≡ F.contents files.old }
     ensures counted { NoneFell (F.faults files.old) (F.faults files.new) }
+    ensures takes_first { TakesFirst (files_named (map string_bytes words.now)) (F.taken files.old) (F.taken files.new) }
+    ensures takes_all { OnOk result (F.taken files.new ≡ append_told (F.taken files.old) (files_named (map string_bytes words.now))) }
     ensures out_counted { O.faults out.old ≤ O.faults out.new }
 {
     match command(alloc, words) {

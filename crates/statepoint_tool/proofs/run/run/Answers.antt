@@ -8,6 +8,9 @@ use Rattle.statepoint_tool.specs.declared.runner.Runner.{Runner}
 use Rattle.statepoint_tool.proofs.GivenLaws.{MayGiveFromInput-as_told, MayGiveFromInput-earlier, from_input_as_told}
 use Rattle.statepoint_tool.proofs.ReadsLaws.{Reads-stops, Reads-then}
 use Rattle.statepoint_tool.proofs.WorksLaws.{Works-given, Works-stops, Works-goes_on}
+use Rattle.std.proofs.Common.{[], ◌∷◌}
+use Rattle.tool_io.proofs.TakeLaws.{OnOk-takes, TakesFirst-more, TakesFirst-then}
+use Rattle.statepoint_tool.specs.Named.{files_of_map}
 use Rattle.statepoint_tool.proofs.run.run.Goals as goal
 
 pub run_module-requires : goal.run_module-requires
@@ -50,3 +53,22 @@ returns-clause-works g c =
     after c.run_module.ensures.counted
     (Reads-then (judged engine) (λ (_ : Runner). c.in_ok-read.read) (rw c.form.ensures at c.in_ok-read.ensures.read) c.in_ok-runner.ensures.judged)
     (rw c.in_ok-runner.ensures.engine at (c.run_module.ensures.works c.in_ok-read.read.content c.in_ok-runner.ensures.runs)))
+
+pub returns-in_err-read-clause-takes_first : goal.returns-in_err-read-clause-takes_first
+returns-in_err-read-clause-takes_first g c =
+    TakesFirst-more c.in_err-read.ensures.takes_first (c.args.request.input ∷ c.args.request.plan ∷ files_of_map c.args.engine)
+
+pub returns-in_err-runner-clause-takes_first : goal.returns-in_err-runner-clause-takes_first
+returns-in_err-runner-clause-takes_first g c =
+    TakesFirst-more c.in_ok-read.ensures.takes_first (c.args.request.input ∷ c.args.request.plan ∷ files_of_map c.args.engine)
+
+pub returns-clause-takes_first : goal.returns-clause-takes_first
+returns-clause-takes_first g c =
+    TakesFirst-then (g.F.Files.taken c.args.files.now) (c.args.request.code ∷ []) c.in_ok-read.ensures.takes_all
+    (rw c.in_ok-runner.ensures.engine at c.run_module.ensures.takes_first)
+
+pub returns-clause-takes_all : goal.returns-clause-takes_all
+returns-clause-takes_all g c =
+    OnOk-takes c.run_module.result (g.F.Files.taken c.args.files.now) (g.F.Files.taken c.take_module.new.files) (g.F.Files.taken c.run_module.new.files)
+    (c.args.request.code ∷ []) (c.args.request.input ∷ c.args.request.plan ∷ files_of_map c.args.engine) c.in_ok-read.ensures.takes_all
+    (rw c.in_ok-runner.ensures.engine at c.run_module.ensures.takes_all)

@@ -1,0 +1,44 @@
+-- A call over files and sinks whose counts of faults are the constant 0.
+use Rattle.std.proofs.Common.{◌≡◌, ◌⊎◌, ℕ, List, Option, inl, inr}
+use Rattle.tool_io.proofs.CountLaws.{Rose-zero-absurd}
+use Rattle.tool_words.specs.Words.{command_of}
+use Rattle.statepoint_tool.specs.Answers.{SinkSeen, sink_seen}
+use Rattle.statepoint_tool.specs.Causes.{Ends}
+use Rattle.statepoint_tool.specs.Complete.{AllTold, IsWhole, IsShort}
+use Rattle.statepoint_tool.specs.Facts.{Facts}
+use Rattle.statepoint_tool.specs.Statuses.{ReadFaultCounted}
+use Rattle.statepoint_tool.specs.Taken.{FilesSeen, files_seen}
+use Rattle.statepoint_tool.specs.Work.{Given, Output}
+use Rattle.statepoint_tool.specs.declared.status.Status.{Status}
+use Rattle.statepoint_tool.specs.declared.status.Status.TheVariants as status
+
+-- what a call sees of files and of a sink that never fail
+abbrev pub sure_files : (List ℕ → Option (List ℕ)) → FilesSeen
+sure_files contents = files_seen contents (λ _. 0) (λ _. 0)
+
+abbrev pub sure_sink : (old new : Option (List ℕ)) → SinkSeen
+sure_sink old new = sink_seen old new 0 0
+
+module _ (words : List (List ℕ)) (contents : List ℕ → Option (List ℕ)) (old new old_notes new_notes : Option (List ℕ)) (ended : Status)
+    (facts : Facts words (sure_files contents) (sure_sink old new) (sure_sink old_notes new_notes) ended) where
+  pub no_read_fault : ¬ (ended ≡ status.ReadFault)
+  no_read_fault is = (let counted : ReadFaultCounted words (sure_files contents) = facts.read_fault_counted is in Rose-zero-absurd counted.holds.1)
+
+  pub no_write_fault : ¬ (ended ≡ status.WriteFault)
+  no_write_fault is = elim (facts.write_fault_counted is) [
+    | inl rose ↦ Rose-zero-absurd rose
+    | inr rose ↦ Rose-zero-absurd rose
+  ]
+
+  short_wants : (output : Output) → IsShort output ended (sure_sink old new) (sure_sink old_notes new_notes) → ended ≡ status.WantOfMemory
+  short_wants output short = elim short.wants_memory [
+    | inl memory ↦ memory
+    | inr failed ↦ absurd (no_write_fault failed.0)
+  ]
+
+  pub complete_or_memory : (given : Given) (output : Output) → AllTold (sure_files contents) (command_of words) given → Ends words given output
+      → (ended ≡ output.status) ⊎ (ended ≡ status.WantOfMemory)
+  complete_or_memory given output told ends = elim (facts.complete given output told ends (λ rose. Rose-zero-absurd rose)) [
+    | inl whole ↦ inl whole.status_is
+    | inr short ↦ inr (short_wants output short)
+  ]
