@@ -1,3 +1,4 @@
+//! What a module runs on.
 ghost use Rattle.std.specs.Prelude.{◌≡◌};
 ghost use Rattle.statepoint_tool.specs.Work.{form_of};
 

@@ -1,3 +1,4 @@
+//! Why the work stops.
 use ir_types::Fault;
 use map_bytes::MapFault;
 use sp_ids::Memory;
