@@ -1,4 +1,0 @@
-use Rattle.check_texts.proofs.paths.+is_stale.Given as goal
-
-abbrev pub decreases-is_stale : goal.decreases-is_stale
-decreases-is_stale l = l.steps
