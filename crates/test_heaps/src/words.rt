@@ -43,7 +43,7 @@ impl<'a> Words<'a> {
 }
 
 // What stands before and behind the first of these bytes.
-pub(crate) fn cut(bytes: &[u8], mark: u8) -> Option<(&[u8], &[u8])> {
+fn cut(bytes: &[u8], mark: u8) -> Option<(&[u8], &[u8])> {
     let end = bytes.iter().position(|b| *b == mark)?;
     let (front, back) = bytes.split_at(end);
     let (_, rest) = back.split_first()?;
