@@ -1,8 +1,12 @@
-//! Cases, one on a line: what is asked, the text, and what must be found, with `|` between them.
+//! Cases, a row each: what is asked, the text, and what must be found.
+
+ghost use Rattle.std.specs.Prelude.{◌≤◌, length};
+ghost use Rattle.sp_ids.specs.declared.limits.TheConstants.{FILE_BYTES};
 
 use crate::commands::found_in_words;
 use crate::plans::{found_in_input, found_in_plan};
 use crate::spelled::{spelled_text, spelled_words};
+use case_files::{CaseLine, Part, Refusal, case_lines, parts_in, rows_in, three_cells};
 use sp_ids::limits::FILE_BYTES;
 use std::alloc::{AllocError, Global};
 
@@ -35,79 +39,87 @@ pub(crate) enum OfInput {
 /// A case.
 #[derive(Clone, Copy)]
 pub(crate) struct Case<'a> {
+    /// Its line in the file of cases.
+    pub(crate) line: u32,
+    pub(crate) expected: &'a str,
     asked: Asked,
-    spelled: &'a [u8],
-    expected: &'a [u8],
+    spelled: &'a str,
+}
+
+/// The cases of a file. Each part has a title, and rows.
+pub(crate) fn cases_of(alloc: Global, file: &[u8]) -> Result<Vec<Case<'_>>, Refusal>
+    requires { length file.now ≤ FILE_BYTES }
+{
+    let lines = case_lines(alloc, file)?;
+    let mut cases = Vec::new(alloc);
+    for part in &parts_in(alloc, &lines)? {
+        add_cases(alloc, &mut cases, part)?;
+    }
+    Ok(cases)
+}
+
+fn add_cases<'a>(
+    alloc: Global,
+    cases: &mut Vec<Case<'a>>,
+    part: &Part<'_, 'a>,
+) -> Result<(), Refusal> {
+    if !part.head.starts_with(' ') {
+        return Err(Refusal::Head(part.line));
+    }
+    for row in &rows_in(alloc, part.body)? {
+        cases.push(Case::of(row)?)?;
+    }
+    Ok(())
 }
 
 impl<'a> Case<'a> {
-    // The case of a line; a line that asks nothing known has none.
-    pub(crate) fn of(line: &'a [u8]) -> Option<Case<'a>> {
-        let (asked, rest) = cut(line, b'|')?;
-        let (spelled, expected) = cut(rest, b'|')?;
-        Some(Case {
-            asked: asked_by(asked.trim_ascii())?,
-            spelled: spelled.trim_ascii(),
-            expected: expected.trim_ascii(),
+    fn of(row: &CaseLine<'a>) -> Result<Case<'a>, Refusal> {
+        let (asked, spelled, expected) = three_cells(row)?;
+        let Some(asked) = asked_by(asked) else {
+            return Err(Refusal::Words(row.number));
+        };
+        Ok(Case {
+            line: row.number,
+            expected,
+            asked,
+            spelled,
         })
-    }
-
-    pub(crate) fn expected(&self) -> &'a [u8] {
-        self.expected
     }
 
     // What is found in the text.
     pub(crate) fn found(&self, alloc: Global) -> Result<String, AllocError> {
-        let text = spelled_text(alloc, self.spelled)?;
+        let text = spelled_text(alloc, self.spelled.as_bytes())?;
         if text.len() as u64 > FILE_BYTES {
             return String::from_str(alloc, "too long");
         }
         match self.asked {
             Asked::Plan(asked) => found_in_plan(alloc, asked, &text),
             Asked::Input(asked) => found_in_input(alloc, asked, &text),
-            Asked::Words => found_in_words(alloc, &spelled_words(alloc, self.spelled)?),
+            Asked::Words => {
+                found_in_words(alloc, &spelled_words(alloc, self.spelled.as_bytes())?)
+            }
         }
     }
 }
 
-// What stands before and behind the first of these bytes.
-pub(crate) fn cut(bytes: &[u8], mark: u8) -> Option<(&[u8], &[u8])> {
-    let end = bytes.iter().position(|b| *b == mark)?;
-    let (front, back) = bytes.split_at(end);
-    let (_, rest) = back.split_first()?;
-    Some((front, rest))
-}
-
-fn asked_by(words: &[u8]) -> Option<Asked> {
-    if words == b"plan".as_slice() {
-        Some(Asked::Plan(OfPlan::Lines))
-    } else if words == b"lines".as_slice() {
-        Some(Asked::Plan(OfPlan::Count))
-    } else if words == b"input".as_slice() {
-        Some(Asked::Input(OfInput::Numbers))
-    } else if words == b"numbers".as_slice() {
-        Some(Asked::Input(OfInput::Count))
-    } else if words == b"words".as_slice() {
-        Some(Asked::Words)
-    } else {
-        asked_of_event(words)
+fn asked_by(words: &str) -> Option<Asked> {
+    match words {
+        "plan" => Some(Asked::Plan(OfPlan::Lines)),
+        "lines" => Some(Asked::Plan(OfPlan::Count)),
+        "input" => Some(Asked::Input(OfInput::Numbers)),
+        "numbers" => Some(Asked::Input(OfInput::Count)),
+        "words" => Some(Asked::Words),
+        _ => asked_of_event(words),
     }
 }
 
-fn asked_of_event(words: &[u8]) -> Option<Asked> {
-    let (word, event) = cut(words, b' ')?;
-    let event = number(event)?;
-    if word == b"group".as_slice() {
-        Some(Asked::Plan(OfPlan::Group(event)))
-    } else if word == b"go".as_slice() {
-        Some(Asked::Plan(OfPlan::Go(event)))
-    } else if word == b"flips".as_slice() {
-        Some(Asked::Plan(OfPlan::Flips(event)))
-    } else {
-        None
+fn asked_of_event(words: &str) -> Option<Asked> {
+    let (word, event) = words.split_once(' ')?;
+    let event = event.parse::<u64>().ok()?;
+    match word {
+        "group" => Some(Asked::Plan(OfPlan::Group(event))),
+        "go" => Some(Asked::Plan(OfPlan::Go(event))),
+        "flips" => Some(Asked::Plan(OfPlan::Flips(event))),
+        _ => None,
     }
-}
-
-pub(crate) fn number(word: &[u8]) -> Option<u64> {
-    str::from_utf8(word).ok()?.parse::<u64>().ok()
 }

@@ -9,9 +9,9 @@ mod spelled;
 ghost use Rattle.std.specs.Prelude.{◌≤◌, length};
 ghost use Rattle.sp_ids.specs.declared.limits.TheConstants.{FILE_BYTES};
 
-use cases::Case;
+use case_files::Tally;
+use cases::{Case, cases_of};
 use sp_ids::limits::FILE_BYTES;
-use sp_text::Lines;
 use std::alloc::Global;
 use std::{env, io};
 use tool_io::{DiskFiles, Files};
@@ -34,25 +34,29 @@ fn try_file(rt: &HostRuntime, name: &str) -> io::Result<()> {
     }
 }
 
-// Tries each case of the file, names those that don't hold, and counts.
+// Tries the cases of a file, names those that don't hold, and counts.
 fn report(rt: &impl Print, alloc: Global, name: &str, text: &[u8]) -> io::Result<()>
     requires { length text.now ≤ FILE_BYTES }
 {
-    let mut lines = Lines::of(text);
-    let mut cases = 0u32;
-    let mut holding = 0u32;
-    while let Some(line) = lines.next_line() {
-        let Some(case) = Case::of(line.bytes) else {
-            continue;
-        };
-        cases = cases.saturating_add(1);
+    match cases_of(alloc, text) {
+        Ok(cases) => {
+            let tally = tried(rt, alloc, name, &cases)?;
+            println!(rt; "{name}: {tally}")
+        }
+        Err(refusal) => println!(rt; "{name}: {refusal}"),
+    }
+}
+
+fn tried(rt: &impl Print, alloc: Global, name: &str, cases: &[Case]) -> io::Result<Tally> {
+    let mut tally = Tally::new();
+    for case in cases {
         let found = case.found(alloc)?;
-        if found.as_bytes() == case.expected() {
-            holding = holding.saturating_add(1);
-        } else {
-            let number = line.number;
-            println!(rt; "{name}:{number}: found {found}")?;
+        let holds = found.as_str() == case.expected;
+        tally.count(holds);
+        if !holds {
+            let line = case.line;
+            println!(rt; "{name}: line {line}: found {found}")?;
         }
     }
-    println!(rt; "{name}: {holding} of {cases} cases hold")
+    Ok(tally)
 }

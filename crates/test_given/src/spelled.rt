@@ -1,7 +1,6 @@
 //! Texts as cases spell them: `\n`, `\r`, `\t`, `\s` for a space, `\p` for `|`, `\o` and `\c` for braces, `\0`, and
 //! `{N:PART}` for a part that is repeated. Words have blanks between them, and `''` is the empty one.
 
-use crate::cases::{cut, number};
 use std::alloc::{AllocError, Global};
 
 // The text that is spelled; a part in braces that doesn't say how often is left out.
@@ -73,4 +72,16 @@ fn meant(letter: u8) -> u8 {
         b'0' => 0,
         other => other,
     }
+}
+
+// What stands before and behind the first of these bytes.
+fn cut(bytes: &[u8], mark: u8) -> Option<(&[u8], &[u8])> {
+    let end = bytes.iter().position(|b| *b == mark)?;
+    let (front, back) = bytes.split_at(end);
+    let (_, rest) = back.split_first()?;
+    Some((front, rest))
+}
+
+fn number(word: &[u8]) -> Option<u64> {
+    str::from_utf8(word).ok()?.parse::<u64>().ok()
 }
