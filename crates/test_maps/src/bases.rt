@@ -1,12 +1,13 @@
-//! Maps with names, which cases begin with.
+//! Maps with names, which cases begin with: the parts `=map NAME` of a file of cases, with the bytes in pairs of digits.
 
-use crate::words::{cut, hexadecimal};
+use crate::words::hexadecimal;
+use case_files::CaseLine;
 use std::alloc::{AllocError, Global};
 
-/// The bytes of the maps that the lines `map NAME: DIGITS` name; a line `more NAME: DIGITS` adds to the last one.
+/// The bytes of maps, by their names.
 #[derive(Drop)]
 pub(crate) struct Bases {
-    names: Vec<Vec<u8>>,
+    names: Vec<String>,
     maps: Vec<Vec<u8>>,
 }
 
@@ -18,30 +19,25 @@ impl Bases {
         }
     }
 
-    // Keeps what the line names, if it names a map.
-    pub(crate) fn take_line(&mut self, alloc: Global, line: &[u8]) -> Result<(), AllocError> {
-        let Some((head, digits)) = cut(line, b':') else {
-            return Ok(());
-        };
-        let Some((word, name)) = cut(head, b' ') else {
-            return Ok(());
-        };
-        if word == b"map".as_slice() {
-            self.names.push(Vec::from_slice(alloc, name)?)?;
-            self.maps.push(hexadecimal(alloc, digits)?)?;
+    // Keeps the map of this name, whose bytes these lines spell.
+    pub(crate) fn add(
+        &mut self,
+        alloc: Global,
+        name: &str,
+        lines: &[CaseLine],
+    ) -> Result<(), AllocError> {
+        let mut map = Vec::new(alloc);
+        for line in lines {
+            map.extend_from_slice(&hexadecimal(alloc, line.text.as_bytes())?)?;
         }
-        if word == b"more".as_slice() {
-            let more = hexadecimal(alloc, digits)?;
-            if let Some(last) = self.maps.last_mut() {
-                last.extend_from_slice(&more)?;
-            }
-        }
+        self.names.push(String::from_str(alloc, name)?)?;
+        self.maps.push(map)?;
         Ok(())
     }
 
     // The bytes of the map of this name.
-    pub(crate) fn named(&self, name: &[u8]) -> Option<&[u8]> {
-        let place = self.names.iter().position(|one| one.as_slice() == name)?;
+    pub(crate) fn named(&self, name: &str) -> Option<&[u8]> {
+        let place = self.names.iter().position(|one| one.as_str() == name)?;
         self.maps.get(place).map(|map| map.as_slice())
     }
 }

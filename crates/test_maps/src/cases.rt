@@ -1,10 +1,14 @@
-//! Cases, one on a line: a map's name with what is changed in it, what is asked, and what must be found, with `|` between.
+//! Cases, a row each: a map's name with what is changed in it, what is asked, and what must be found.
+
+ghost use Rattle.std.specs.Prelude.{◌≤◌, length};
+ghost use Rattle.sp_ids.specs.declared.limits.TheConstants.{FILE_BYTES};
 
 use crate::bases::Bases;
 use crate::found::{
     found_at, found_entry, lent_and_changed, shown_cuts, shown_functions, shown_records, shown_view,
 };
 use crate::words::{cut, hexadecimal, number};
+use case_files::{CaseLine, Part, Refusal, case_lines, parts_in, rows_in, three_cells};
 use std::alloc::{AllocError, Global};
 
 /// What is asked of a map.
@@ -22,25 +26,67 @@ pub(crate) enum Asked {
 /// A case.
 #[derive(Clone, Copy)]
 pub(crate) struct Case<'a> {
-    spelled: &'a [u8],
+    /// Its line in the file of cases.
+    pub(crate) line: u32,
+    pub(crate) expected: &'a str,
+    spelled: &'a str,
     asked: Asked,
-    expected: &'a [u8],
+}
+
+/// What a file of cases has: maps with names, and cases of them.
+#[derive(Drop)]
+pub(crate) struct Sheet<'a> {
+    pub(crate) bases: Bases,
+    pub(crate) cases: Vec<Case<'a>>,
+}
+
+/// What is read of a file: parts with a map each, and parts with a title and rows.
+pub(crate) fn sheet_of(alloc: Global, file: &[u8]) -> Result<Sheet<'_>, Refusal>
+    requires { length file.now ≤ FILE_BYTES }
+{
+    let lines = case_lines(alloc, file)?;
+    let mut sheet = Sheet {
+        bases: Bases::new(alloc),
+        cases: Vec::new(alloc),
+    };
+    for part in &parts_in(alloc, &lines)? {
+        sheet.take(alloc, part)?;
+    }
+    Ok(sheet)
+}
+
+impl<'a> Sheet<'a> {
+    fn take(&mut self, alloc: Global, part: &Part<'_, 'a>) -> Result<(), Refusal> {
+        match part.head.split_once(' ') {
+            Some(("map", name)) => {
+                self.bases.add(alloc, name, part.body)?;
+                Ok(())
+            }
+            Some(("", _title)) => self.add_cases(alloc, part.body),
+            _ => Err(Refusal::Head(part.line)),
+        }
+    }
+
+    fn add_cases(&mut self, alloc: Global, body: &[CaseLine<'a>]) -> Result<(), Refusal> {
+        for row in &rows_in(alloc, body)? {
+            self.cases.push(Case::of(row)?)?;
+        }
+        Ok(())
+    }
 }
 
 impl<'a> Case<'a> {
-    // The case of a line; a line that asks nothing known has none.
-    pub(crate) fn of(line: &'a [u8]) -> Option<Case<'a>> {
-        let (spelled, rest) = cut(line, b'|')?;
-        let (asked, expected) = cut(rest, b'|')?;
-        Some(Case {
-            spelled: spelled.trim_ascii(),
-            asked: asked_by(asked.trim_ascii())?,
-            expected: expected.trim_ascii(),
+    fn of(row: &CaseLine<'a>) -> Result<Case<'a>, Refusal> {
+        let (spelled, asked, expected) = three_cells(row)?;
+        let Some(asked) = asked_by(asked) else {
+            return Err(Refusal::Words(row.number));
+        };
+        Ok(Case {
+            line: row.number,
+            expected,
+            spelled,
+            asked,
         })
-    }
-
-    pub(crate) fn expected(&self) -> &'a [u8] {
-        self.expected
     }
 
     // What is found in the map.
@@ -58,46 +104,34 @@ impl<'a> Case<'a> {
     }
 }
 
-fn asked_by(words: &[u8]) -> Option<Asked> {
-    if words == b"view".as_slice() {
-        return Some(Asked::View);
+fn asked_by(words: &str) -> Option<Asked> {
+    match words {
+        "view" => Some(Asked::View),
+        "cuts" => Some(Asked::Cuts),
+        "functions" => Some(Asked::Functions),
+        "records" => Some(Asked::Records),
+        _ => asked_at(words),
     }
-    if words == b"cuts".as_slice() {
-        return Some(Asked::Cuts);
-    }
-    if words == b"functions".as_slice() {
-        return Some(Asked::Functions);
-    }
-    if words == b"records".as_slice() {
-        return Some(Asked::Records);
-    }
-    let (word, rest) = cut(words, b' ')?;
-    let place = number(rest)?;
-    if word == b"entry".as_slice() {
-        Some(Asked::Entry(place))
-    } else if word == b"find".as_slice() {
-        Some(Asked::Find(place))
-    } else if word == b"lend".as_slice() {
-        Some(Asked::Lend(place))
-    } else {
-        None
+}
+
+fn asked_at(words: &str) -> Option<Asked> {
+    let (word, place) = words.split_once(' ')?;
+    let place = place.parse::<u64>().ok()?;
+    match word {
+        "entry" => Some(Asked::Entry(place)),
+        "find" => Some(Asked::Find(place)),
+        "lend" => Some(Asked::Lend(place)),
+        _ => None,
     }
 }
 
 // The map that the first word names, changed as the others say: `-N` keeps the first N bytes, `PLACE=DIGITS` puts bytes into a place,
 // `+DIGITS` puts bytes at the end.
-fn spelled_map(alloc: Global, bases: &Bases, spelled: &[u8]) -> Result<Vec<u8>, AllocError> {
-    let mut bytes = Vec::new(alloc);
-    let mut first = true;
-    for word in spelled.split(|b| *b == b' ') {
-        if first {
-            if let Some(base) = bases.named(word) {
-                bytes.extend_from_slice(base)?;
-            }
-            first = false;
-        } else {
-            change(alloc, &mut bytes, word)?;
-        }
+fn spelled_map(alloc: Global, bases: &Bases, spelled: &str) -> Result<Vec<u8>, AllocError> {
+    let (name, changes) = spelled.split_once(' ').unwrap_or((spelled, ""));
+    let mut bytes = Vec::from_slice(alloc, bases.named(name).unwrap_or(&[]))?;
+    for word in changes.as_bytes().split(|b| *b == b' ') {
+        change(alloc, &mut bytes, word)?;
     }
     Ok(bytes)
 }

@@ -13,12 +13,11 @@ mod words;
 ghost use Rattle.std.specs.Prelude.{◌≤◌, length, IfOk, vec_len};
 ghost use Rattle.sp_ids.specs.declared.limits.TheConstants.{FILE_BYTES};
 
-use bases::Bases;
-use cases::Case;
+use case_files::Tally;
+use cases::{Sheet, sheet_of};
 use making::{made_of, made_often};
 use showing::{put_raw, put_text_of, show};
 use sp_ids::limits::FILE_BYTES;
-use sp_text::Lines;
 use std::alloc::Global;
 use std::process::ExitCode;
 use std::{env, fmt, io};
@@ -79,35 +78,37 @@ fn refused(rt: &HostRuntime, name: &str, why: &impl fmt::Display) -> io::Result<
 
 fn judge(rt: &HostRuntime, name: &str) -> io::Result<bool> {
     match taken(rt, name) {
-        Ok(text) => report(rt, rt.alloc(), &text),
+        Ok(text) => report(rt, rt.alloc(), name, &text),
         Err(fault) => refused(rt, name, &fault),
     }
 }
 
 // Tries each case of the file, names those that don't hold, and counts.
-fn report(rt: &impl Print, alloc: Global, text: &[u8]) -> io::Result<bool>
+fn report(rt: &HostRuntime, alloc: Global, name: &str, text: &[u8]) -> io::Result<bool>
     requires { length text.now ≤ FILE_BYTES }
 {
-    let mut lines = Lines::of(text);
-    let mut bases = Bases::new(alloc);
-    let mut cases = 0u32;
-    let mut holding = 0u32;
-    while let Some(line) = lines.next_line() {
-        bases.take_line(alloc, line.bytes)?;
-        let Some(case) = Case::of(line.bytes) else {
-            continue;
-        };
-        cases = cases.saturating_add(1);
-        let found = case.found(alloc, &bases)?;
-        if found.as_bytes() == case.expected() {
-            holding = holding.saturating_add(1);
-        } else {
-            let number = line.number;
-            println!(rt; "line {number}: found {found}")?;
+    match sheet_of(alloc, text) {
+        Ok(sheet) => {
+            let tally = tried(rt, alloc, &sheet)?;
+            println!(rt; "{tally}")?;
+            Ok(tally.all_hold())
+        }
+        Err(refusal) => refused(rt, name, &refusal),
+    }
+}
+
+fn tried(rt: &impl Print, alloc: Global, sheet: &Sheet) -> io::Result<Tally> {
+    let mut tally = Tally::new();
+    for case in &sheet.cases {
+        let found = case.found(alloc, &sheet.bases)?;
+        let holds = found.as_str() == case.expected;
+        tally.count(holds);
+        if !holds {
+            let line = case.line;
+            println!(rt; "line {line}: found {found}")?;
         }
     }
-    println!(rt; "{holding} of {cases} cases hold")?;
-    Ok(holding == cases)
+    Ok(tally)
 }
 
 // Writes of each file's module the layouts and the map, or the fault of the text.
