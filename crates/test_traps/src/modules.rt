@@ -1,6 +1,6 @@
 //! Modules that calls with bundles stand in. Each function has one block, and the one layout is `{ i64, ptr }`.
 //!
-//! A function begins with `func`, its name and the number of its arguments, and its lines follow (`lines`).
+//! A function is a part of its own, with its name and the number of its arguments in the head, and its lines below (`lines`).
 
 ghost use Rattle.std.specs.Prelude.{◌≡◌, not, IsTrue};
 ghost use Rattle.std.specs.List.{list_all};
@@ -9,15 +9,12 @@ ghost use Rattle.ir_ast.specs.Ops.{is_terminator};
 
 use crate::lines::{inst_of, name_of};
 use anyhow::{Result, bail};
+use case_files::{CaseLine, filled};
 use ir_ast::{Arg, Block, Cell, Form, Func, Inst, Layout, Module, Ty};
 use std::alloc::Global;
 
-/// The module of the functions that a text spells.
-pub(crate) fn module_of(alloc: Global, text: &str) -> Result<Module> {
-    let mut funcs = Vec::new(alloc);
-    for spelled in text.split("func ").skip(1) {
-        funcs.push(func_of(alloc, spelled)?)?;
-    }
+/// The module of these functions.
+pub(crate) fn module_of(alloc: Global, funcs: Vec<Func>) -> Result<Module> {
     if funcs.len() > u32::MAX as usize {
         bail!("too many functions");
     }
@@ -30,12 +27,12 @@ fn layout(alloc: Global) -> Result<Layout> {
     Ok(Layout::of(name_of(alloc, "N")?, fields))
 }
 
-fn func_of(alloc: Global, spelled: &str) -> Result<Func> {
-    let (head, lines) = spelled.split_once("\n").unwrap_or((spelled, ""));
-    let (name, count) = head.split_once(' ').unwrap_or((head, "0"));
+/// The function of this name and number of arguments that these lines spell.
+pub(crate) fn func_of(alloc: Global, words: &str, body: &[CaseLine]) -> Result<Func> {
+    let (name, count) = words.split_once(' ').unwrap_or((words, "0"));
     let mut insts = Vec::new(alloc);
-    for line in lines.lines() {
-        insts.push(inst_of(alloc, line)?)?;
+    for line in filled(body) {
+        insts.push(inst_of(alloc, line.text)?)?;
     }
     let args = arguments(alloc, count.parse()?)?;
     func_with(alloc, name, args, insts)
