@@ -1,20 +1,20 @@
-//! Files of cases: texts with what is expected of them.
-//!
-//! A line that begins with `=` opens a part, which has all lines up to the next one; no line of a module begins so.
-//! What stands before the first part is for readers. Empty lines at the end of a part don't count.
+//! Files of cases: texts with what is expected of them. Empty lines at the end of a part don't count.
+
+ghost use Rattle.std.specs.Prelude.{◌≤◌, length};
+ghost use Rattle.sp_ids.specs.declared.limits.TheConstants.{FILE_BYTES};
 
 use crate::escapes::unescaped;
 use crate::expected::Expected;
+use case_files::{CaseLine, Part, Refusal, case_lines, filled, parts_in, push_text};
 use ir_ast::Form;
-use sp_ids::Memory;
-use std::alloc::{AllocError, AllocFailed, Global};
+use std::alloc::{AllocError, Global};
 use std::fmt;
 
 /// A text with what is expected of it.
 #[derive(Drop)]
 pub(crate) struct Case<'a> {
     /// Its line in the file of cases.
-    pub(crate) line: usize,
+    pub(crate) line: u32,
     /// The name of its group.
     pub(crate) group: &'a str,
     /// What tells it from the others: a remark, or its own line.
@@ -28,52 +28,6 @@ impl fmt::Display for Case<'_> {
     fn fmt<W: fmt::Write>(&self, f: &mut fmt::Formatter<W>) -> fmt::Result {
         write!(f, "{}: {}: {}", self.line, self.group, self.note)
     }
-}
-
-/// Why a file of cases can't be read.
-#[derive(Clone, Copy)]
-pub(crate) enum Unread {
-    /// A line opens no part, or none that may stand there.
-    Head,
-    /// Nothing is known that is expected so.
-    Expectation,
-    /// A place that no part before it tells.
-    Place,
-    /// A backslash with nothing that it may stand before, or an open repetition.
-    Escape,
-    /// Memory that was wanted and could not be had.
-    Memory,
-}
-
-impl fmt::Display for Unread {
-    fn fmt<W: fmt::Write>(&self, f: &mut fmt::Formatter<W>) -> fmt::Result {
-        f.write_str(match self {
-            Unread::Head => "no part that may stand here",
-            Unread::Expectation => "unknown words of what is expected",
-            Unread::Place => "an unknown place",
-            Unread::Escape => "an unknown escape, or an open repetition",
-            Unread::Memory => "out of memory",
-        })
-    }
-}
-
-impl From<AllocError> for Unread {
-    fn from(_error: AllocError) -> Unread {
-        Unread::Memory
-    }
-}
-
-impl<T: Drop> From<AllocFailed<T>> for Unread {
-    fn from(_failed: AllocFailed<T>) -> Unread {
-        Unread::Memory
-    }
-}
-
-/// Why a file of cases can't be read, and the line of the part that is at fault.
-#[derive(Clone, Copy)]
-pub(crate) struct Refusal {
-    pub(crate) line: usize,
-    pub(crate) why: Unread,
 }
 
 // What stands around a text.
@@ -124,25 +78,6 @@ impl<'a> Group<'a> {
     }
 }
 
-// A line that opens a part, without its `=`, and the lines behind it.
-#[derive(Clone, Copy)]
-struct Part<'a> {
-    line: usize,
-    head: &'a str,
-    body: &'a str,
-}
-
-impl<'a> Part<'a> {
-    fn of(line: usize, text: &'a str) -> Part<'a> {
-        let (head, body) = text.split_once('\n').unwrap_or((text, ""));
-        Part {
-            line,
-            head,
-            body: body.trim_end_matches('\n'),
-        }
-    }
-}
-
 // What was read so far of a file of cases.
 #[derive(Drop)]
 struct Sheet<'a> {
@@ -153,31 +88,31 @@ struct Sheet<'a> {
 }
 
 impl<'a> Sheet<'a> {
-    fn take(&mut self, part: Part<'a>) -> Result<(), Unread> {
+    fn take(&mut self, part: &Part<'_, 'a>) -> Result<(), Refusal> {
         match part.head.split_once(' ') {
             Some(("", words)) => self.add_cases(part, words),
-            Some(("lines", words)) => self.open_group(Group::of(words, true)),
-            Some(("texts", words)) => self.open_group(Group::of(words, false)),
-            Some(("place", words)) => self.add_place(words, part.body),
-            None if part.head == "here" => self.close_place(part.body),
-            None if part.head == "printed" => self.expect_printed(part.body),
-            _ => Err(Unread::Head),
+            Some(("lines", words)) => self.open_group(part.line, Group::of(words, true)),
+            Some(("texts", words)) => self.open_group(part.line, Group::of(words, false)),
+            Some(("place", words)) => self.add_place(part, words),
+            None if part.head == "here" => self.close_place(part),
+            None if part.head == "printed" => self.expect_printed(part),
+            _ => Err(Refusal::Head(part.line)),
         }
     }
 
-    fn open_group(&mut self, group: Option<Group<'a>>) -> Result<(), Unread> {
+    fn open_group(&mut self, line: u32, group: Option<Group<'a>>) -> Result<(), Refusal> {
         self.group = group;
         match group {
             Some(_) => Ok(()),
-            None => Err(Unread::Head),
+            None => Err(Refusal::Head(line)),
         }
     }
 
     // `NAME` or `NAME, which stands PLACE`, and what stands before a text.
-    fn add_place(&mut self, words: &'a str, body: &str) -> Result<(), Unread> {
+    fn add_place(&mut self, part: &Part<'_, 'a>, words: &'a str) -> Result<(), Refusal> {
         let (name, outer) = words.split_once(", which stands ").unwrap_or((words, ""));
-        let Frame { before, after } = self.frame(outer)?;
-        let own = self.written(body)?;
+        let Frame { before, after } = self.frame(part.line, outer)?;
+        let own = self.written(part)?;
         let before = joined(self.alloc, [before.as_slice(), own.as_slice(), b""])?;
         self.places.push(Place {
             name,
@@ -187,12 +122,12 @@ impl<'a> Sheet<'a> {
     }
 
     // What stands behind a text at the last place.
-    fn close_place(&mut self, body: &str) -> Result<(), Unread> {
+    fn close_place(&mut self, part: &Part<'_, 'a>) -> Result<(), Refusal> {
         let Some(Place { name, frame }) = self.places.pop() else {
-            return Err(Unread::Head);
+            return Err(Refusal::Head(part.line));
         };
         let Frame { before, after } = frame;
-        let own = self.written(body)?;
+        let own = self.written(part)?;
         let after = joined(self.alloc, [own.as_slice(), after.as_slice(), b""])?;
         self.places.push(Place {
             name,
@@ -201,12 +136,12 @@ impl<'a> Sheet<'a> {
         Ok(())
     }
 
-    // A copy of what stands around texts at this place. Around those at none nothing stands.
-    fn frame(&self, name: &str) -> Result<Frame, Unread> {
+    // A copy of what stands around texts at this place, as a line names it. Around those at none nothing stands.
+    fn frame(&self, line: u32, name: &str) -> Result<Frame, Refusal> {
         let (before, after) = match self.places.iter().find(|place| place.name == name) {
             Some(place) => (place.frame.before.as_slice(), place.frame.after.as_slice()),
             None if name.is_empty() => (b"".as_slice(), b"".as_slice()),
-            None => return Err(Unread::Place),
+            None => return Err(Refusal::Words(line)),
         };
         Ok(Frame {
             before: Vec::from_slice(self.alloc, before)?,
@@ -215,19 +150,30 @@ impl<'a> Sheet<'a> {
     }
 
     // `EXPECTED` or `EXPECTED: REMARK`, and one text, or one a line.
-    fn add_cases(&mut self, part: Part<'a>, words: &'a str) -> Result<(), Unread> {
+    fn add_cases(&mut self, part: &Part<'_, 'a>, words: &'a str) -> Result<(), Refusal> {
         let Some(group) = self.group else {
-            return Err(Unread::Head);
+            return Err(Refusal::Head(part.line));
         };
         let (expected, remark) = words.split_once(": ").unwrap_or((words, ""));
-        if !group.by_lines {
-            return self.add_case(group, part.line, remark, expected, part.body);
+        if group.by_lines {
+            self.add_lines(group, expected, part.body)
+        } else {
+            let text = self.written(part)?;
+            self.add_case(group, part.line, remark, expected, &text)
         }
-        let mut number = part.line;
-        for line in part.body.split('\n') {
-            number = number.saturating_add(1);
-            if !line.is_empty() {
-                self.add_case(group, number, line, expected, line)?;
+    }
+
+    fn add_lines(
+        &mut self,
+        group: Group<'a>,
+        expected: &str,
+        body: &[CaseLine<'a>],
+    ) -> Result<(), Refusal> {
+        for line in body {
+            if !line.text.is_empty() {
+                let written = joined(self.alloc, [line.text.as_bytes(), b"\n", b""])?;
+                let text = unescaped(self.alloc, line.number, &written)?;
+                self.add_case(group, line.number, line.text, expected, &text)?;
             }
         }
         Ok(())
@@ -236,16 +182,14 @@ impl<'a> Sheet<'a> {
     fn add_case(
         &mut self,
         group: Group<'a>,
-        line: usize,
+        line: u32,
         note: &'a str,
         expected: &str,
-        body: &str,
-    ) -> Result<(), Unread> {
-        let text = self
-            .frame(group.place)?
-            .around(self.alloc, &self.written(body)?)?;
+        text: &[u8],
+    ) -> Result<(), Refusal> {
+        let text = self.frame(line, group.place)?.around(self.alloc, text)?;
         let Some(expected) = Expected::of(self.alloc, expected, &text)? else {
-            return Err(Unread::Expectation);
+            return Err(Refusal::Words(line));
         };
         self.cases.push(Case {
             line,
@@ -259,8 +203,8 @@ impl<'a> Sheet<'a> {
     }
 
     // The printed text that is expected of the last case.
-    fn expect_printed(&mut self, body: &str) -> Result<(), Unread> {
-        let printed = self.written(body)?;
+    fn expect_printed(&mut self, part: &Part<'_, 'a>) -> Result<(), Refusal> {
+        let printed = self.written(part)?;
         match self.cases.last_mut() {
             Some(
                 Case {
@@ -271,17 +215,15 @@ impl<'a> Sheet<'a> {
                 *text = printed;
                 Ok(())
             }
-            _ => Err(Unread::Head),
+            _ => Err(Refusal::Head(part.line)),
         }
     }
 
     // The text that the lines of a part stand for.
-    fn written(&self, body: &str) -> Result<Vec<u8>, Unread> {
-        if body.is_empty() {
-            return Ok(Vec::new(self.alloc));
-        }
-        let lines = joined(self.alloc, [body.as_bytes(), b"\n", b""])?;
-        unescaped(self.alloc, &lines)
+    fn written(&self, part: &Part<'_, 'a>) -> Result<Vec<u8>, Refusal> {
+        let mut lines = Vec::new(self.alloc);
+        push_text(&mut lines, filled(part.body))?;
+        unescaped(self.alloc, part.line, &lines)
     }
 }
 
@@ -294,21 +236,18 @@ fn joined(alloc: Global, parts: [&[u8]; 3]) -> Result<Vec<u8>, AllocError> {
 }
 
 /// The cases of a file.
-pub(crate) fn cases_of(alloc: Global, file: &str) -> Result<Vec<Case<'_>>, Refusal> {
+pub(crate) fn cases_of(alloc: Global, file: &[u8]) -> Result<Vec<Case<'_>>, Refusal>
+    requires { length file.now ≤ FILE_BYTES }
+{
+    let lines = case_lines(alloc, file)?;
     let mut sheet = Sheet {
         alloc,
         places: Vec::new(alloc),
         group: None,
         cases: Vec::new(alloc),
     };
-    let mut line: usize = 1;
-    for (number, text) in file.split("\n=").enumerate() {
-        if number > 0 {
-            sheet
-                .take(Part::of(line, text))
-                .map_err(|why| Refusal { line, why })?;
-        }
-        line = line.saturating_add(text.split('\n').count());
+    for part in &parts_in(alloc, &lines)? {
+        sheet.take(part)?;
     }
     Ok(sheet.cases)
 }

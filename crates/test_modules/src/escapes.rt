@@ -2,7 +2,7 @@
 //! return, a blank and a backslash, a backslash at the end of a line joins it to the next, and `\9<` and `\>` stand
 //! around what is there nine times. Repetitions may stand in one another.
 
-use crate::cases::Unread;
+use case_files::Refusal;
 use std::alloc::{AllocError, Global};
 use std::mem;
 
@@ -27,13 +27,15 @@ enum Place {
 #[derive(Drop)]
 struct Writer {
     alloc: Global,
+    // that of the part or the row
+    line: u32,
     text: Vec<u8>,
     open: Vec<Open>,
     place: Place,
 }
 
 impl Writer {
-    fn take(&mut self, byte: u8) -> Result<(), Unread> {
+    fn take(&mut self, byte: u8) -> Result<(), Refusal> {
         match self.place {
             Place::Plain if byte == b'\\' => {
                 self.place = Place::Escape;
@@ -45,13 +47,13 @@ impl Writer {
         }
     }
 
-    fn add(&mut self, byte: u8) -> Result<(), Unread> {
+    fn add(&mut self, byte: u8) -> Result<(), Refusal> {
         self.place = Place::Plain;
         self.text.push(byte)?;
         Ok(())
     }
 
-    fn take_escape(&mut self, byte: u8) -> Result<(), Unread> {
+    fn take_escape(&mut self, byte: u8) -> Result<(), Refusal> {
         match byte {
             b'n' => self.add(b'\n'),
             b't' => self.add(b'\t'),
@@ -67,7 +69,7 @@ impl Writer {
         }
     }
 
-    fn take_times(&mut self, times: u32, byte: u8) -> Result<(), Unread> {
+    fn take_times(&mut self, times: u32, byte: u8) -> Result<(), Refusal> {
         match byte {
             b'0'..=b'9' => {
                 let digit = u32::from(byte - b'0');
@@ -75,32 +77,32 @@ impl Writer {
                 Ok(())
             }
             b'<' => self.open(times),
-            _ => Err(Unread::Escape),
+            _ => Err(Refusal::Words(self.line)),
         }
     }
 
-    fn open(&mut self, times: u32) -> Result<(), Unread> {
+    fn open(&mut self, times: u32) -> Result<(), Refusal> {
         self.place = Place::Plain;
         let before = mem::replace(&mut self.text, Vec::new(self.alloc));
         self.open.push(Open { times, before })?;
         Ok(())
     }
 
-    fn close(&mut self) -> Result<(), Unread> {
+    fn close(&mut self) -> Result<(), Refusal> {
         self.place = Place::Plain;
         let Some(Open { times, before }) = self.open.pop() else {
-            return Err(Unread::Escape);
+            return Err(Refusal::Words(self.line));
         };
         let repeated = mem::replace(&mut self.text, before);
         add_times(&mut self.text, &repeated, times)?;
         Ok(())
     }
 
-    fn whole(self) -> Result<Vec<u8>, Unread> {
+    fn whole(self) -> Result<Vec<u8>, Refusal> {
         if matches!(self.place, Place::Plain) && self.open.is_empty() {
             Ok(self.text)
         } else {
-            Err(Unread::Escape)
+            Err(Refusal::Words(self.line))
         }
     }
 }
@@ -112,10 +114,11 @@ fn add_times(text: &mut Vec<u8>, part: &[u8], times: u32) -> Result<(), AllocErr
     Ok(())
 }
 
-/// The text that stands there so written.
-pub(crate) fn unescaped(alloc: Global, written: &[u8]) -> Result<Vec<u8>, Unread> {
+/// The text that stands there so written, in the part or row of this line.
+pub(crate) fn unescaped(alloc: Global, line: u32, written: &[u8]) -> Result<Vec<u8>, Refusal> {
     let mut writer = Writer {
         alloc,
+        line,
         text: Vec::new(alloc),
         open: Vec::new(alloc),
         place: Place::Plain,
