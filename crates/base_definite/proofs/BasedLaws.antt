@@ -5,7 +5,7 @@ use Rattle.std.specs.List.{All}
 use Rattle.std.specs.Option.{option_map, option_map_or}
 use Rattle.std.proofs.lemmas.List.{length-append}
 use Rattle.std.proofs.lemmas.Option.{slice_get_within}
-use Rattle.list_laws.proofs.Places.{get_some, split_at}
+use Rattle.list_laws.proofs.Places.{get_some, split_at, get_middle, take_whole, take_front_of}
 use Rattle.ir_ast.specs.declared.ops.Pred.{Pred}
 use Rattle.ir_ast.specs.declared.ops.Pred.TheVariants as preds
 use Rattle.ir_ast.specs.declared.ops.Op.{Op}
@@ -32,7 +32,7 @@ use Rattle.base_laws.proofs.BlockLaws.{after_append}
 use Rattle.base_laws.proofs.FormLaws.{based_append, edges_based}
 use Rattle.base_definite.proofs.base_relations.GroupLaws.{start_number, text_now, value_is}
 use Rattle.base_definite.proofs.base_relations.ValueLaws.{merged_false, merged_true}
-use Rattle.base_definite.proofs.CutLaws.{get_middle_of, number_cut, results_append, results_in, take_front_of, take_next, take_whole, text_take}
+use Rattle.base_definite.proofs.CutLaws.{number_cut, results_append, results_in, take_next, text_take}
 use Rattle.base_definite.proofs.ExpandLaws.{Expands}
 
 -- ---- how the lines for an instruction end
@@ -214,7 +214,7 @@ module _ (functions : ℕ → Renaming) (index : ℕ) (func : Function) (called 
       let place_is : offset number place + length front ≡ length (before_it ++ front) =
       ap (λ n. n + length front) (offset_is number place own found) ∙ sym (length-append before_it front) in
       let stands_there : slice_get block.insts (offset number place + length front) ≡ Some line =
-      ap (slice_get block.insts) place_is ∙ (ap (λ insts. slice_get insts (length (before_it ++ front))) whole ∙ get_middle_of (before_it ++ front) line (back ++ behind)) in
+      ap (slice_get block.insts) place_is ∙ (ap (λ insts. slice_get insts (length (before_it ++ front))) whole ∙ get_middle (before_it ++ front) line (back ++ behind)) in
       let inside = slice_get_within block.insts (offset number place + length front) line stands_there in
       let cut = number_cut (based func) number (offset number place + length front) block found_there (omega arith) in
       let front_is : take (offset number place + length front) block.insts ≡ before_it ++ front =

@@ -41,19 +41,7 @@ number_cut func number place block found within =
     ap (λ n. length func.args + n)
     (ap results_in (text_take func.blocks number place block found within) ∙ results_append (instructions_of (take number func.blocks)) (take place block.insts))
 
-pub take_whole : {A : Type 0} (xs : List A) → take (length xs) xs ≡ xs
-take_whole [] = refl
-take_whole (x ∷ xs) = ap (λ rest. x ∷ rest) (take_whole xs)
-
 pub take_next : {A : Type 0} (xs : List A) (place : ℕ) (x : A) → slice_get xs place ≡ Some x → take (suc place) xs ≡ take place xs ++ x ∷ []
 take_next [] place x at = absurd cc
 take_next (y ∷ xs) zero x at = let same : y ≡ x = cc in ap (λ z. z ∷ []) same
 take_next (y ∷ xs) (suc place) x at = ap (λ rest. y ∷ rest) (take_next xs place x at)
-
-pub get_middle_of : {A : Type 0} (front : List A) (x : A) (back : List A) → slice_get (front ++ x ∷ back) (length front) ≡ Some x
-get_middle_of [] x back = refl
-get_middle_of (y ∷ front) x back = get_middle_of front x back
-
-pub take_front_of : {A : Type 0} (front back : List A) → take (length front) (front ++ back) ≡ front
-take_front_of [] back = refl
-take_front_of (x ∷ front) back = ap (λ rest. x ∷ rest) (take_front_of front back)

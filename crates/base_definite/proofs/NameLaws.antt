@@ -26,8 +26,8 @@ use Rattle.base_laws.proofs.LineLaws.{IsReady}
 use Rattle.base_laws.proofs.BlockLaws.{given_append, given_by}
 use Rattle.base_definite.proofs.base_relations.GroupLaws.{text_is}
 use Rattle.base_definite.proofs.base_relations.ValueLaws.{merged_false, merged_true}
-use Rattle.base_definite.proofs.CutLaws.{take_front_of}
 use Rattle.base_definite.proofs.SpreadLaws.{IsFree, base_name, distinct_spread, inserted_names, same_name, spread}
+use Rattle.list_laws.proofs.Places.{take_front_of}
 
 -- ---- the names for one instruction
 

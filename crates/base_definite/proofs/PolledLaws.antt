@@ -6,7 +6,7 @@ use Rattle.std.specs.Option.{option_map, option_map_or}
 use Rattle.std.proofs.lemmas.Grind.{flat_map-append}
 use Rattle.std.proofs.lemmas.List.{length-append}
 use Rattle.std.proofs.lemmas.Option.{slice_get_within}
-use Rattle.list_laws.proofs.Places.{get_some, split_at}
+use Rattle.list_laws.proofs.Places.{get_some, split_at, get_middle, take_whole, take_front_of}
 use Rattle.ir_ast.specs.Insts.{Instruction}
 use Rattle.ir_ast.specs.Blocks.{BasicBlock}
 use Rattle.ir_ast.specs.Funcs.{Function, instructions_of}
@@ -15,7 +15,7 @@ use Rattle.object_meaning.specs.Lines.{insts_in, retreats}
 use Rattle.base_forms.specs.Polls.{front_poll, placed, placed_block, placed_from, poll_call, polled}
 use Rattle.base_laws.proofs.PlacedLaws.{block_placed, results_placed, results_polled}
 use Rattle.base_laws.proofs.PollLaws.{graph_placed}
-use Rattle.base_definite.proofs.CutLaws.{get_middle_of, number_cut, results_append, results_in, take_front_of, take_next, take_whole}
+use Rattle.base_definite.proofs.CutLaws.{number_cut, results_append, results_in, take_next}
 use Rattle.base_definite.proofs.ExpandLaws.{Expands}
 
 abbrev polls_of : ℕ → Instruction → List Instruction
@@ -130,7 +130,7 @@ module _ (func : Function) (filled : (number : ℕ) (block : BasicBlock) → sli
       ∙ sym (append_assoc (polled_all number (take place own.insts)) (polls_of number inst) (inst ∷ polled_all number (drop (place + 1) own.insts)))))
       ∙ sym (append_assoc (front_poll number) (polled_all number (take place own.insts) ++ polls_of number inst) (inst ∷ polled_all number (drop (place + 1) own.insts)))) in
       let stands_at : slice_get (placed_block number own).insts (length front) ≡ Some inst =
-      ap (λ insts. slice_get insts (length front)) whole ∙ get_middle_of front inst (polled_all number (drop (place + 1) own.insts)) in
+      ap (λ insts. slice_get insts (length front)) whole ∙ get_middle front inst (polled_all number (drop (place + 1) own.insts)) in
       let here = placed_at func number own found in
       let within = slice_get_within (placed_block number own).insts (length front) inst stands_at in
       let own_within = slice_get_within own.insts place inst at in

@@ -7,7 +7,7 @@ use Rattle.std.proofs.lemmas.List.{length_push}
 use Rattle.std.proofs.Math.ListN.{length-set}
 use Rattle.std.proofs.lemmas.List.Elements.{Contains-append_left, Contains-append_right, Contains-append_cases}
 use Rattle.std.proofs.lemmas.Option.{none-some, same_Some, slice_get_within, slice_get-get_or}
-use Rattle.list_laws.proofs.Places.{get_front, get_some, get_middle, get_map, map_back}
+use Rattle.list_laws.proofs.Places.{get_front, get_some, get_middle, get_map, map_back, get_pushed, get_own}
 use Rattle.list_laws.proofs.Contents.{contains_one, contains_none, contains_first}
 use Rattle.ir_ast.specs.Funcs.{Function}
 use Rattle.pair_facts.specs.Paths.{Arrives}
@@ -36,9 +36,6 @@ never_missed func fact reached never = record {
 }
 
 -- ---- the fact is missed
-
-pub fact_known : (func : Function) (asked : Asked) (number : ℕ) → number < length asked.facts.keys → (fact : Fact) × IsFact asked number fact
-fact_known func asked number inside = get_some asked.facts.keys number inside
 
 asks_inside : (func : Function) (asked : Asked) (number asker : ℕ) → length asked.askers.items ≡ length asked.facts.keys → Asks asked number asker → number < length asked.facts.keys
 asks_inside func asked number asker same asks =
@@ -87,20 +84,6 @@ has_failed func asker old new facts askers failing inside misses are = record {
     ]
 
 -- ---- an answer
-
-pub always_asked : (func : Function) (asker : ℕ) (fact : Fact) (asked : Asked) → IsAsked func asked → Decides func fact true → HasAsked func asker fact asked asked
-always_asked func asker fact asked are always = record {
-  asked = are;
-  grows = grows_not asked;
-  answered = λ failed front sound holding. always front sound;
-}
-
-pub never_asked : (func : Function) (asker : ℕ) (fact : Fact) (old new : Asked) → HasFailed func asker old new → HasAsked func asker fact old new
-never_asked func asker fact old new failed = record {
-  asked = failed.asked;
-  grows = failed.grows;
-  answered = λ none front sound holding. absurd (none failed.failed);
-}
 
 -- a fact that asks for another
 pub other_asked : (func : Function) (asker number : ℕ) (fact other : Fact) (old mid new : Asked) → IsAsked func old → asker < length old.facts.keys
@@ -186,12 +169,6 @@ map_pushed : {A B : Type 0} (f : A → B) (xs : List A) (x : A) → map f (xs ++
 map_pushed f [] x = refl
 map_pushed f (y ∷ xs) x = ap (λ rest. f y ∷ rest) (map_pushed f xs x)
 
-pushed_at : {A : Type 0} (xs : List A) (y : A) (k : ℕ) (x : A) → slice_get (xs ++ y ∷ []) k ≡ Some x → (slice_get xs k ≡ Some x) ⊎ (x ≡ y)
-pushed_at [] y zero x is = inr (sym (same_Some y x is))
-pushed_at [] y (suc k) x is = absurd (none-some x is)
-pushed_at (z ∷ xs) y zero x is = inl is
-pushed_at (z ∷ xs) y (suc k) x is = pushed_at xs y k x is
-
 pub numbered_new : (fact : Fact) (number : ℕ) (test : Bool) (old new : Asked) (row : Vec ℕ Global) → new.facts.keys ≡ cond test old.facts.keys (old.facts.keys ++ fact ∷ [])
     → length new.facts.keys ≡ length old.facts.keys + 1 → new.askers.items ≡ old.askers.items ++ row ∷ [] → row.items ≡ [] → new.failing ≡ old.failing
     → number ≡ length old.askers.items → length old.askers.items ≡ length old.facts.keys → IsNumbered fact number old new
@@ -212,8 +189,8 @@ numbered_new fact number test old new row keys_are long askers_are none failing 
       stands = subst (λ (xs : List Fact). slice_get xs number ≡ Some fact) (sym keys)
           (subst (λ (n : ℕ). slice_get (old.facts.keys ++ fact ∷ []) n ≡ Some fact) (sym at_end) (get_middle old.facts.keys fact []));
       same = ap length askers_are ∙ length_push old.askers.items row ∙ ap (λ (n : ℕ). n + 1) same ∙ sym long;
-      facts = λ n one is. pushed_at old.facts.keys fact n one (subst (λ (xs : List Fact). slice_get xs n ≡ Some one) keys is);
-      askers = λ n one asks. elim (pushed_at (rows_of old) row.items n asks.row (subst (λ (xs : List (List ℕ)). slice_get xs n ≡ Some asks.row) rows asks.stands)) [
+      facts = λ n one is. get_pushed old.facts.keys fact n one (subst (λ (xs : List Fact). slice_get xs n ≡ Some one) keys is);
+      askers = λ n one asks. elim (get_pushed (rows_of old) row.items n asks.row (subst (λ (xs : List (List ℕ)). slice_get xs n ≡ Some asks.row) rows asks.stands)) [
         | inl earlier ↦ record { row = asks.row; stands = earlier; contained = asks.contained }
         | inr last ↦ absurd (contains_none one (subst (λ (xs : List ℕ). Contains xs one) (last ∙ none) asks.contained))
       ];
@@ -227,11 +204,6 @@ get_elsewhere (x ∷ xs) zero zero y apart = absurd (apart refl)
 get_elsewhere (x ∷ xs) zero (suc k) y apart = refl
 get_elsewhere (x ∷ xs) (suc j) zero y apart = refl
 get_elsewhere (x ∷ xs) (suc j) (suc k) y apart = get_elsewhere xs j k y (λ same. apart (ap suc same))
-
-get_own : {A : Type 0} (xs : List A) (j : ℕ) (y : A) → j < length xs → slice_get (set xs j y) j ≡ Some y
-get_own [] j y below = absurd (omega arith)
-get_own (x ∷ xs) zero y below = refl
-get_own (x ∷ xs) (suc j) y below = get_own xs j y (omega arith)
 
 pub adds_asker : (number asker : ℕ) (old new : Asked) (before after : Vec ℕ Global) → number < length old.askers.items → before ≡ get_or old.askers.items number before
     → after.items ≡ before.items ++ asker ∷ [] → new.facts ≡ old.facts → new.failing ≡ old.failing → new.askers.items ≡ set old.askers.items number after

@@ -2,7 +2,7 @@
 use Rattle.std.proofs.Common.{◌≡◌, ◌∙◌, inl, inr, ℕ, zero, suc, ◌+◌, ◌<◌, ◌≤◌, Bool, true, false, List, [], ◌∷◌, Option, Some, None, ap, sym, subst, slice_get, length, arith, Result, Ok, Err, IfOk}
 use Rattle.std.specs.Prelude.{◌&&◌}
 use Rattle.std.specs.List.{Contains}
-use Rattle.std.proofs.lemmas.Bool.{cases_lt}
+use Rattle.std.proofs.lemmas.Bool.{cases_lt, and_from}
 use Rattle.std.proofs.lemmas.List.{get_or_past, length-map}
 use Rattle.std.proofs.lemmas.Option.{none-some, same_Some, slice_get_within}
 use Rattle.list_laws.proofs.Places.{get_some}
@@ -20,7 +20,6 @@ use Rattle.pair_facts.specs.Pairs.{Pairs, at_entry, along, base_along, on_edge}
 use Rattle.pair_facts.specs.Paths.{pairs_at, pairs_at_end, Arrives, start, went}
 use Rattle.pair_facts.proofs.FreshLaws.{IsSound, pairs_sound, arrives_sound}
 use Rattle.pair_facts.proofs.PlaceLaws.{pairs_from_front}
-use Rattle.pair_facts.proofs.BoolLemmas.{joined, and_false}
 use Rattle.base_facts.specs.declared.facts.Pointer.TheVariants as pointers
 use Rattle.base_facts.specs.declared.facts.Fact.{Fact}
 use Rattle.base_facts.specs.declared.search.Asked.{Asked}
@@ -34,6 +33,7 @@ use Rattle.base_facts.specs.Closing.{HoldingBelow, HoldsAlong, Follows, from_fro
 use Rattle.base_facts.proofs.SettleLemmas.{start_front}
 use Rattle.base_facts.proofs.StepLemmas.{fact_holds, definition_holds, IsAt, AllFacts, fact_stands_at, step_at, step_outside, is_asking}
 use Rattle.base_facts.proofs.AskedLemmas.{grows_not, grows_more}
+use Rattle.list_laws.proofs.Booleans.{and_false}
 
 -- ---- reached blocks
 
@@ -201,13 +201,6 @@ front_closed func number fact preds old new is entry edges before = record {
       (λ from edge. let pred = edges from edge in before.along pred.0 from (slice_get_within preds pred.0 from pred.1) pred.1 none);
 }
 
-pub failed_closed : (func : Function) (number : ℕ) (fact : Fact) (old new : Asked) → HasFailed func number old new → HasClosed func number fact old new
-failed_closed func number fact old new failed = record {
-  asked = failed.asked;
-  grows = failed.grows;
-  closed = λ none. absurd (none failed.failed);
-}
-
 pub misses_entry : (func : Function) (fact : Fact) → fact.place ≡ phi_count (lines_at func fact.block) → fact.block ≡ 0
     → at_entry func (operand_in fact.pointer) (base_in fact.base) ≡ false → MissesFact func fact
 misses_entry func fact is entry none = record {
@@ -300,7 +293,7 @@ stepped_holds func asked number fact at (Known answer) front defined place facts
 stepped_holds func asked number fact at (One first) front defined place facts_at stepped none sound holding =
     first_holds func asked number fact first at front defined place facts_at stepped none sound holding
 stepped_holds func asked number fact at (Two first second) front defined place facts_at stepped none sound holding =
-    joined (holds func front first) (holds func front second)
+    and_from (holds func front first) (holds func front second)
     (first_holds func asked number fact first at front defined place facts_at.0 stepped.0 none sound holding)
     (first_holds func asked number fact second at front defined place facts_at.1 stepped.1 none sound holding)
 
@@ -323,10 +316,6 @@ null_closed func number fact asked defined null = absurd (never defined.value (s
   where
     never : (value : ℕ) → pointers.Null ≡ pointers.Value value → ⊥
     never value same = cc
-
-pub ok_map : {T E : Type 0} (r : Result T E) (P Q : T → Type 0) → ((x : T) → P x → Q x) → IfOk r P → IfOk r Q
-ok_map (Ok x) P Q each h = each x h
-ok_map (Err e) P Q each h = h
 
 -- ---- all facts
 
@@ -367,13 +356,6 @@ all_closed func number old new none below = record {
   asked = below.asked;
   grows = below.grows;
   closed = λ n one is. below.closed n one (omega (arith, get_none_past new.facts.keys number none, slice_get_within new.facts.keys n one is)) is;
-}
-
-pub none_closed : (func : Function) (asked : Asked) → IsAsked func asked → ClosedBelow func 0 asked asked
-none_closed func asked are = record {
-  asked = are;
-  grows = grows_not asked;
-  closed = λ n one low. absurd (omega arith);
 }
 
 -- both facts were asked

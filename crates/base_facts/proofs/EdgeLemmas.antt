@@ -1,7 +1,7 @@
 -- The phi of a block that gives a value, and what the value was along an edge.
 use Rattle.std.proofs.Common.{◌≡◌, ◌∙◌, inl, inr, ℕ, zero, suc, ◌<◌, ◌≤◌, cond, Bool, true, false, List, [], ◌∷◌, Option, Some, None, refl, ap, sym, subst, length, arith, take, nat_lt}
 use Rattle.std.specs.Prelude.{◌==◌, ◌&&◌}
-use Rattle.std.proofs.lemmas.Bool.{false≢true, cases_Bool, eqb-true, eq-eqb, ltb-true, lt-ltb}
+use Rattle.std.proofs.lemmas.Bool.{false≢true, cases_Bool, eqb-true, eq-eqb, ltb-true, lt-ltb, and_parts, and_from}
 use Rattle.std.proofs.lemmas.List.Sums.{prefix_len-le-length}
 use Rattle.std.proofs.lemmas.Option.{none-some, same_Some}
 use Rattle.ir_ast.specs.Funcs.{Function}
@@ -10,18 +10,11 @@ use Rattle.object_meaning.specs.Lines.{Line}
 use Rattle.object_meaning.specs.Jumps.{phi_count}
 use Rattle.pair_facts.specs.Lines.{lines_at, line_in, phis_in, gives, named}
 use Rattle.pair_facts.specs.Pairs.{incoming, value_along}
-use Rattle.pair_facts.proofs.BoolLemmas.{both, joined}
-use Rattle.pair_facts.proofs.GroupLaws.{gives_is, given_is}
+use Rattle.pair_facts.proofs.GroupLaws.{gives_is, given_is, not_given}
 use Rattle.fact_tables.specs.declared.homes.Home.{Home}
 use Rattle.fact_tables.specs.Homes.{GivesAt, home_at, home_in, KnowsHomes}
 use Rattle.base_facts.specs.Edges.{IsPhiOf, FindsPhi, place_below}
 use Rattle.fact_tables.proofs.TableLemmas.{home_found, given_once}
-
-not_given : (line : Line) (value : ℕ) → (line.to ≡ Some value → ⊥) → gives line value ≡ false
-not_given line value other = elim (cases_Bool (gives line value)) [
-  | inl h ↦ absurd (other (given_is line value h))
-  | inr h ↦ h
-]
 
 -- the first lines of which only one gives the value
 along_only : (lines : List Line) (count from value at : ℕ) → at < count → count ≤ length lines → (line_in lines at).to ≡ Some value
@@ -52,7 +45,7 @@ pub finds_phi : (func : Function) (homes : List (Option Home)) (block value : �
     → home_in homes value ≡ Some home → FindsPhi (lines_at func block) value (place_below home block (phi_count (lines_at func block)))
 finds_phi func homes block value home knows found = elim (cases_Bool test) [
   | inl holds ↦
-      (let two = both (home.block == block) (nat_lt home.place (phi_count (lines_at func block))) holds in
+      (let two = and_parts (home.block == block) (nat_lt home.place (phi_count (lines_at func block))) holds in
       let own : GivesAt func block home.place value = subst (λ (b : ℕ). GivesAt func b home.place value) (eqb-true home.block block two.0) (knows.sound value home found) in
       let is : IsPhiOf (lines_at func block) value home.place = record {
         inside = ltb-true home.place (phi_count (lines_at func block)) two.1;
@@ -64,7 +57,7 @@ finds_phi func homes block value home knows found = elim (cases_Bool test) [
       (λ at below given.
       let same = same_Some home (home_at block at) (sym found ∙ home_found func homes block at value knows given) in
       let place_is : home.place ≡ at = ap (λ (h : Home). h.place) same in
-      let found_too : test ≡ true = joined (home.block == block) (nat_lt home.place (phi_count (lines_at func block)))
+      let found_too : test ≡ true = and_from (home.block == block) (nat_lt home.place (phi_count (lines_at func block)))
       (eq-eqb home.block block (ap (λ (h : Home). h.block) same)) (lt-ltb home.place (phi_count (lines_at func block)) (omega (arith, below, place_is))) in
       false≢true (sym fails ∙ found_too))
 ]

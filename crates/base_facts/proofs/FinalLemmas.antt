@@ -34,6 +34,7 @@ use Rattle.base_facts.proofs.StepLemmas.{fact_holds, IsAt, fact_stands_at}
 use Rattle.base_facts.proofs.AskedLemmas.{grows_not}
 use Rattle.base_facts.proofs.SourceLemmas.{Passes, passes_start, passes_more, passes_holds}
 use Rattle.base_facts.proofs.ClosingLemmas.{front_holds, one_fact, pair_along, arrives_reached}
+use Rattle.list_laws.proofs.Zips.{zip_pushed, zip_weaker}
 
 -- ---- the graph of askers
 
@@ -291,18 +292,6 @@ zip_map P Q f [] [] each all = tt
 zip_map P Q f [] (y ∷ ys) each all = absurd all
 zip_map P Q f (x ∷ xs) [] each all = absurd all
 zip_map P Q f (x ∷ xs) (y ∷ ys) each all = (each x y all.0, zip_map P Q f xs ys each all.1)
-
-zip_weaker : {A B : Type 0} (P Q : A → B → Type 0) (xs : List A) (ys : List B) → ((x : A) (y : B) → P x y → Q x y) → AllZip P xs ys → AllZip Q xs ys
-zip_weaker P Q [] [] each all = tt
-zip_weaker P Q [] (y ∷ ys) each all = absurd all
-zip_weaker P Q (x ∷ xs) [] each all = absurd all
-zip_weaker P Q (x ∷ xs) (y ∷ ys) each all = (each x y all.0, zip_weaker P Q xs ys each all.1)
-
-zip_pushed : {A B : Type 0} (P : A → B → Type 0) (xs : List A) (ys : List B) (x : A) (y : B) → AllZip P xs ys → P x y → AllZip P (xs ++ x ∷ []) (ys ++ y ∷ [])
-zip_pushed P [] [] x y all own = (own, tt)
-zip_pushed P [] (z ∷ ys) x y all own = absurd all
-zip_pushed P (z ∷ xs) [] x y all own = absurd all
-zip_pushed P (z ∷ xs) (w ∷ ys) x y all own = (all.0, zip_pushed P xs ys x y all.1 own)
 
 pub told_all : (func : Function) (asked : Asked) (marks : List Bool) (asks : List Ask) (found : List Found) → IsAsked func asked
     → ((number : ℕ) (fact : Fact) → IsFact asked number fact → IsClosed func asked number fact) → MarksReached (rows_of asked) asked.failing.items marks

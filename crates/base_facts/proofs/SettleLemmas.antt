@@ -22,7 +22,6 @@ use Rattle.pair_facts.specs.Pairs.{Pairs, relocated_pairs, member_pairs, base_in
 use Rattle.pair_facts.specs.Paths.{pairs_at}
 use Rattle.pair_facts.specs.Segments.{start_at}
 use Rattle.pair_facts.specs.Uses.{entries_at}
-use Rattle.pair_facts.proofs.BoolLemmas.{and_false}
 use Rattle.pair_facts.proofs.FreshLaws.{IsSound, pairs_sound}
 use Rattle.pair_facts.proofs.PlaceLaws.{Leaves, LeavesBase, IsPlainAt, pairs_passed, pairs_gone, start_below, no_statepoint, start_is, head_ended, head_here, no_head_before, pairs_from_front, pairs_from_group, pairs_lost}
 use Rattle.pair_facts.proofs.GroupLaws.{members_between, group_gives, group_gives_none, relocated_named, relocated_none}
@@ -36,6 +35,7 @@ use Rattle.base_facts.specs.Facts.{operand_in, base_in}
 use Rattle.fact_tables.specs.Tables.{IsPlace, first_of, IsWithin, FindsWithin}
 use Rattle.base_facts.specs.Members.{member_named}
 use Rattle.base_facts.specs.Settled.{Decides, SettlesBy, Settles, IsNotGiven, finds_wanted, settled_defined, named_under, with_base}
+use Rattle.list_laws.proofs.Booleans.{and_false}
 
 -- ---- operators
 

@@ -2,7 +2,7 @@
 use Rattle.std.proofs.Common.{◌≡◌, ◌∙◌, ◌⊎◌, inl, inr, ℕ, ◌<◌, ◌≤◌, Bool, true, false, List, [], Option, Some, None, ltb, refl, ap, sym, subst, slice_get, length, arith}
 use Rattle.std.specs.Prelude.{◌==◌, slice_index}
 use Rattle.std.specs.Option.{option_map_or}
-use Rattle.std.proofs.lemmas.Bool.{false≢true, cases_Bool, cases_eq, cases_lt, eqb-true, lt-ltb, ltb-true}
+use Rattle.std.proofs.lemmas.Bool.{false≢true, cases_Bool, cases_eq, cases_lt, eqb-true, lt-ltb, ltb-true, and_parts}
 use Rattle.std.proofs.lemmas.List.{get_or_past}
 use Rattle.std.proofs.lemmas.Option.{none-some, same_Some, slice_get_past}
 use Rattle.ir_ast.specs.Blocks.{BasicBlock}
@@ -23,11 +23,10 @@ use Rattle.pair_facts.specs.Segments.{start_at}
 use Rattle.pair_facts.proofs.FreshLaws.{arrives_sound}
 use Rattle.pair_facts.proofs.OwnLaws.{arrives_own}
 use Rattle.pair_facts.proofs.PlaceLaws.{Leaves, LeavesBase, pairs_from_front}
-use Rattle.pair_facts.proofs.BoolLemmas.{both}
 use Rattle.fact_tables.specs.declared.homes.Home.{Home}
 use Rattle.fact_tables.specs.Homes.{GivesAt, home_at, home_in, KnowsHomes}
 use Rattle.fact_tables.proofs.LineLemmas.{plain_none}
-use Rattle.fact_tables.proofs.TableLemmas.{home_found}
+use Rattle.fact_tables.proofs.TableLemmas.{home_found, gives_inside}
 use Rattle.since_statepoint.specs.Regions.{waits, Slips, from_entry, from_statepoint, along}
 use Rattle.base_facts.specs.declared.facts.Pointer.{Pointer}
 use Rattle.base_facts.specs.declared.facts.Pointer.TheVariants as pointers
@@ -314,15 +313,6 @@ module _ (func : Function) (fact : Fact) where
 
 -- ---- homes
 
-given_inside : (func : Function) (block place value : ℕ) → GivesAt func block place value → block < length func.blocks
-given_inside func block place value gives = elim (cases_lt block (length func.blocks)) [
-  | inl inside ↦ inside
-  | inr past ↦
-      (let none : insts_in func block ≡ [] = ap (λ (found : Option BasicBlock). option_map_or (λ (b : BasicBlock). b.insts) found []) (slice_get_past func.blocks block past) in
-      let empty : slice_get (insts_in func block) place ≡ None = ap (λ (insts : List Instruction). slice_get insts place) none in
-      absurd (none-some value (sym (ap (λ (line : Line). line.to) (plain_none (slice_index (registers_of func) block) (insts_in func block) place empty)) ∙ gives)))
-]
-
 pub no_home : (func : Function) (homes : List (Option Home)) (value : ℕ) → KnowsHomes func (length func.blocks) 0 homes → home_in homes value ≡ None → 0 < length func.blocks
     → IsHomeBlock func value 0
 no_home func homes value knows none some = record {
@@ -334,10 +324,10 @@ no_home func homes value knows none some = record {
 pub line_home : (func : Function) (homes : List (Option Home)) (value : ℕ) (home : Home) → KnowsHomes func (length func.blocks) 0 homes → home_in homes value ≡ Some home
     → length func.args ≤ value → IsHomeBlock func value home.block
 line_home func homes value home knows found past = record {
-  inside = given_inside func home.block home.place value (knows.sound value home found);
+  inside = gives_inside func home.block home.place value (knows.sound value home found);
   only = λ block place given. ap (λ (h : Home). h.block) (sym (same_Some home (home_at block place) (sym found ∙ home_found func homes block place value knows given)));
   entry = λ base holds. absurd (false≢true (sym (ap (λ (found : Option Arg). option_map_or (λ (arg : Arg). is_pointer arg.ty) found false) (slice_get_past func.args value past))
-      ∙ (both (is_pointer_argument func value) (own_pairs value base) holds).0));
+      ∙ (and_parts (is_pointer_argument func value) (own_pairs value base) holds).0));
 }
 
 -- ---- finding the source
@@ -393,9 +383,3 @@ behind_closed func number fact other source end old new place is end_is other_is
       ∙ has.answered none front (arrives_sound func source front arrives)
       (λ n one there asks block up. holding n one there asks (block ∙ ap (λ (f : Fact). f.block) other_is)));
 }
-
-pub not_below : (a b : ℕ) → ltb a b ≡ false → b ≤ a
-not_below a b none = elim (cases_lt a b) [
-  | inl less ↦ absurd (false≢true (sym none ∙ lt-ltb a b less))
-  | inr past ↦ past
-]

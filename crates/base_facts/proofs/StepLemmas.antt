@@ -17,7 +17,6 @@ use Rattle.pair_facts.specs.declared.bases.Base.TheVariants.{Any, Named}
 use Rattle.pair_facts.specs.Lines.{lines_at, line_in, line_before, no_line, gives, named, operand_at, same_operand, is_select}
 use Rattle.pair_facts.specs.Pairs.{Pairs, is_named, is_base_named, without, are_own, follows, follows_named, selected, given_pairs}
 use Rattle.pair_facts.specs.Paths.{pairs_at}
-use Rattle.pair_facts.proofs.BoolLemmas.{and_false, or_false}
 use Rattle.pair_facts.proofs.FreshLaws.{IsSound, int, function, pairs_sound}
 use Rattle.pair_facts.proofs.PlaceLaws.{behind_line, after_given}
 use Rattle.pair_facts.proofs.GroupLaws.{given_is}
@@ -30,6 +29,7 @@ use Rattle.base_facts.specs.declared.steps.Step.TheVariants.{Known, One, Two}
 use Rattle.base_facts.specs.Facts.{operand_in, base_in, fact_at, holds, maybe_holds}
 use Rattle.base_facts.specs.Settled.{IsDefined}
 use Rattle.base_facts.specs.Steps.{step_holds, asked_without, one_of, two_of, is_merge_of, own_step, follow_step, select_step, step_for}
+use Rattle.list_laws.proofs.Booleans.{and_false, or_false}
 
 -- ---- the fact of a pair
 

@@ -16,9 +16,8 @@ use Rattle.ir_ast.specs.Derived.{is_merge}
 use Rattle.object_meaning.specs.Lines.{following, after_all}
 use Rattle.object_meaning.specs.Accesses.{cell_of}
 
--- what is known of the values of a function
+-- what is known of the values of a function: among it an operand with its new number, and its base
 pub record Insertion : Type 0 where
-  -- an operand with its new number, and its base
   pub now : Operand → Operand
   pub base : Operand → Operand
   -- whether an instruction uses a derived value

@@ -21,7 +21,7 @@ use Rattle.ir_ast.specs.Insts.{Instruction}
 use Rattle.ir_ast.specs.Blocks.{BasicBlock}
 use Rattle.ir_ast.specs.Funcs.{Function, instructions_of}
 use Rattle.ir_ast.specs.Values.{argument, outcome, definitions_of}
-use Rattle.ir_ast.specs.Operands.{value_in}
+use Rattle.ir_ast.specs.Operands.{value_in, named}
 use Rattle.ir_ast.specs.Lines.{IsLine, LineOf}
 use Rattle.ir_ast.specs.Derived.{is_merge}
 use Rattle.ir_ast.specs.Faults.UnknownName.{NamesOfFunction, LocalNamesAreKnown}
@@ -32,11 +32,10 @@ use Rattle.base_forms.specs.Inserted.{is_merged, is_negated, inserted_number, ne
 use Rattle.base_forms.specs.Bases.{base_of}
 use Rattle.base_forms.specs.Lines.{Insertion, operand_at, numbered_name, kept_line, merged_bases, base_line, check, same_call, compared, merged, lines_for, based_insts, based_blocks}
 use Rattle.base_forms.specs.Based.{rank_of, insertion, based}
-use Rattle.base_tables.specs.Origins.{named}
 use Rattle.base_tables.specs.Tables.{tables_of, now_by, base_by, tabled}
 use Rattle.base_tables.proofs.DefinitionLemmas.{marked_by}
 use Rattle.base_tables.proofs.TableLemmas.{IsKnown, at_value}
-use Rattle.base_infer.proofs.LineLemmas.{after-append, after_up}
+use Rattle.object_meaning.proofs.LineLaws.{after_up, after_append}
 
 ap2 : {A B C : Type 0} (f : A → B → C) {a b : A} {x y : B} → a ≡ b → x ≡ y → f a x ≡ f b y
 ap2 f {a} {b} {x} {y} p q = ap (λ z. f z x) p ∙ ap (λ z. f b z) q
@@ -221,7 +220,7 @@ module _ (func : Function) where
       → after_all next (instructions_of blocks) ≤ length (definitions_of func) → based_blocks mine next blocks ≡ based_blocks own next blocks
   blocks_same next [] lines names few = refl
   blocks_same next (block ∷ blocks) lines names few =
-      let whole = after-append next block.insts (instructions_of blocks) in
+      let whole = after_append next block.insts (instructions_of blocks) in
       let up = after_up (after_all next block.insts) (instructions_of blocks) in
       ap2 (λ (is : List Instruction) (bs : List BasicBlock). (let made : BasicBlock = record block { insts = is } in made) ∷ bs)
       (insts_same next block.insts (all_front IsLine block.insts (instructions_of blocks) lines) (all_front (NamesOfFunction func) block.insts (instructions_of blocks) names) (omega (arith, whole, up, few)))

@@ -18,39 +18,13 @@ use Rattle.ir_ast.specs.Derived.{is_merge}
 use Rattle.ir_ast.specs.Ops.{is_terminator}
 use Rattle.object_meaning.specs.Lines.{following, after_all}
 use Rattle.base_forms.specs.Lines.{Insertion, kept_line, compared, lines_for, based_insts, based_blocks}
+use Rattle.object_meaning.proofs.LineLaws.{following_few, after_push, after_append}
 
 -- ---- values after lines
 
-pub after-push : (start : ℕ) (insts : List Instruction) (inst : Instruction) → after_all start (insts ++ inst ∷ []) ≡ following (after_all start insts) inst
-after-push start [] inst = refl
-after-push start (first ∷ insts) inst = after-push (following start first) insts inst
-
-pub after-append : (start : ℕ) (front back : List Instruction) → after_all start (front ++ back) ≡ after_all (after_all start front) back
-after-append start [] back = refl
-after-append start (inst ∷ front) back = after-append (following start inst) front back
-
-following_by : (gives : Bool) (next : ℕ) → (if gives then next + 1 else next) ≤ next + 1
-following_by true next = omega arith
-following_by false next = omega arith
-
-pub following_few : (next : ℕ) (inst : Instruction) → following next inst ≤ next + 1
-following_few next inst = following_by (is_some inst.result) next
-
-pub after_few : (start : ℕ) (insts : List Instruction) → after_all start insts ≤ start + length insts
-after_few start [] = omega arith
-after_few start (inst ∷ insts) = omega (arith, after_few (following start inst) insts, following_few start inst)
-
-pub after_up : (start : ℕ) (insts : List Instruction) → start ≤ after_all start insts
-after_up start [] = omega arith
-after_up start (inst ∷ insts) = omega (arith, after_up (following start inst) insts, up_by (is_some inst.result) start)
-  where
-    up_by : (gives : Bool) (next : ℕ) → next ≤ (if gives then next + 1 else next)
-    up_by true next = omega arith
-    up_by false next = omega arith
-
 pub after_more : (start : ℕ) (insts : List Instruction) (i : ℕ) (d : Instruction) → i < length insts
     → after_all start (take (i + 1) insts) ≡ following (after_all start (take i insts)) (get_or insts i d)
-after_more start insts i d below = ap (after_all start) (take_more insts i d below) ∙ after-push start (take i insts) (get_or insts i d)
+after_more start insts i d below = ap (after_all start) (take_more insts i d below) ∙ after_push start (take i insts) (get_or insts i d)
 
 -- the instructions of some blocks and of the next one are among all
 pub within_blocks : (blocks yielded : List BasicBlock) (block : BasicBlock) → map (λ y. y) yielded ≡ take (length yielded) blocks
@@ -113,7 +87,7 @@ module _ (given : Insertion) where
   blocks-push start [] block = refl
   blocks-push start (first ∷ blocks) block =
       ap (λ zs. based_block start first ∷ zs) (blocks-push (after_all start first.insts) blocks block
-      ∙ ap (λ n. based_blocks given (after_all start first.insts) blocks ++ based_block n block ∷ []) (sym (after-append start first.insts (instructions_of blocks))))
+      ∙ ap (λ n. based_blocks given (after_all start first.insts) blocks ++ based_block n block ∷ []) (sym (after_append start first.insts (instructions_of blocks))))
 
   -- ---- the terminator
 

@@ -3,14 +3,13 @@
 ghost use Rattle.std.specs.Prelude.{◌≡◌, ◌+◌, ◌<◌, ◌^◌, length, map, IfOk, OnOk};
 ghost use Rattle.std.specs.List.{All, list_all};
 ghost use Rattle.ir_ast.specs.Blocks.{EndsAtTerminator};
-ghost use Rattle.ir_ast.specs.Funcs.{instructions_of};
+ghost use Rattle.ir_ast.specs.Funcs.{instructions_of, zeros_of};
 ghost use Rattle.ir_ast.specs.Lines.{IsLine};
 ghost use Rattle.ir_ast.specs.Faults.UnknownName.{LocalNamesAreKnown};
 ghost use Rattle.object_meaning.specs.Lines.{following, after_all};
 ghost use Rattle.base_forms.specs.Lines.{kept_line, based_insts, based_blocks};
 ghost use Rattle.base_forms.specs.Based.{based, base_table};
 ghost use Rattle.base_tables.specs.Tables.{tabled};
-ghost use Rattle.base_infer.specs.Zeros.{zeros_of};
 ghost use Rattle.base_infer.specs.Before.{stands_alone};
 
 use crate::lines::{push_lines, stands_alone};

@@ -14,7 +14,7 @@ use Rattle.ir_ast.specs.declared.ops.Operand.{Operand}
 use Rattle.ir_ast.specs.Insts.{Instruction}
 use Rattle.ir_ast.specs.Blocks.{BasicBlock, EndsAtTerminator}
 use Rattle.ir_ast.specs.Edges.{targets}
-use Rattle.ir_ast.specs.Funcs.{Function, instructions_of}
+use Rattle.ir_ast.specs.Funcs.{Function, instructions_of, phis_of}
 use Rattle.ir_ast.specs.Ops.{is_terminator}
 use Rattle.ir_ast.specs.Derived.{is_merge}
 use Rattle.ir_ast.specs.Faults.PhiEdges.{is_phi}
@@ -24,8 +24,8 @@ use Rattle.base_forms.specs.DerivedMarks.{uses_marked}
 use Rattle.base_forms.specs.Inserted.{is_merged}
 use Rattle.base_forms.specs.Based.{base_line, based_blocks, based_insts, check, compared, kept_line, lines_for, merged, negation, same_call}
 use Rattle.renaming_laws.proofs.ListLaws.{all_first, all_rest}
-use Rattle.base_laws.specs.BeforeLiveness.{PhisStandFirst, begins_with_phi}
-use Rattle.std.proofs.lemmas.Bool.{not-true}
+use Rattle.base_laws.specs.BeforeLiveness.{PhisStandFirst}
+use Rattle.std.proofs.lemmas.Bool.{not-true, not_from_false}
 use Rattle.ir_ast.proofs.OpLaws.{phi_goes_on}
 
 -- ---- each line that stands for an instruction
@@ -99,9 +99,6 @@ true_second : (a b : Bool) → a && b ≡ true → b ≡ true
 true_second true b both = both
 true_second false b both = absurd cc
 
-not_false : (b : Bool) → b ≡ false → not b ≡ true
-not_false b is = ap not is
-
 abbrev goes_on : Instruction → Bool
 goes_on inst = not (is_terminator inst.op)
 
@@ -169,7 +166,7 @@ lead_polled number (inst ∷ insts) lead = by (is_phi inst.op) refl lead (λ res
     by false other rest further =
         lead_of_none ((polls_of number inst ++ inst ∷ []) ++ flat_map (polled number) insts)
         (all_true_append no_phi (polls_of number inst ++ inst ∷ []) (flat_map (polled number) insts)
-        (all_true_append no_phi (polls_of number inst) (inst ∷ []) (polls_quiet no_phi refl number inst) (ap (λ b. b && true) (not_false (is_phi inst.op) other)))
+        (all_true_append no_phi (polls_of number inst) (inst ∷ []) (polls_quiet no_phi refl number inst) (ap (λ b. b && true) (not_from_false (is_phi inst.op) other)))
         (quiet_polled no_phi refl number insts rest))
 
 -- ---- with bases
@@ -251,7 +248,7 @@ module _ (func : Function) (marks : List Bool) where
       by true phi rest further = lead_lines next inst inst.op (based_insts func marks (following next inst) insts) refl phi (further rest)
       by false other rest further =
           lead_of_none (lines_for func marks next inst inst.op ++ based_insts func marks (following next inst) insts)
-          (all_true_append no_phi (lines_for func marks next inst inst.op) (based_insts func marks (following next inst) insts) (no_phi_lines next inst (not_false (is_phi inst.op) other))
+          (all_true_append no_phi (lines_for func marks next inst inst.op) (based_insts func marks (following next inst) insts) (no_phi_lines next inst (not_from_false (is_phi inst.op) other))
           (quiet_based no_phi no_phi_lines (following next inst) insts rest))
 
   -- ---- edges
@@ -312,7 +309,7 @@ lead_first (first ∷ insts) lead = by (is_phi first.op) refl lead (λ rest. lea
     none (x ∷ all) quiet (suc place) inst at phi = none all (true_second (no_phi x) (list_all no_phi all) quiet) place inst at phi
 
     by : (b : Bool) → is_phi first.op ≡ b → (if b then phis_lead insts else list_all no_phi insts) ≡ true → (phis_lead insts ≡ true → PhisStandFirst insts)
-        → (place : ℕ) (inst : Instruction) → slice_get (first ∷ insts) place ≡ Some inst → is_phi inst.op ≡ true → place < (if is_phi first.op then 1 + begins_with_phi insts else 0)
+        → (place : ℕ) (inst : Instruction) → slice_get (first ∷ insts) place ≡ Some inst → is_phi inst.op ≡ true → place < (if is_phi first.op then 1 + phis_of insts else 0)
     by true is rest further zero inst at phi = rw is (omega arith)
     by true is rest further (suc place) inst at phi = rw is (let below = further rest place inst at phi in omega arith)
     by false is rest further zero inst at phi = absurd (let same : first ≡ inst = cc in let one : is_phi first.op ≡ true = ap (λ i. is_phi i.op) same ∙ phi in cc)

@@ -21,7 +21,7 @@ use Rattle.ir_ast.specs.Insts.{Instruction}
 use Rattle.ir_ast.specs.Blocks.{BasicBlock, EndsAtTerminator}
 use Rattle.ir_ast.specs.Derived.{is_merge}
 use Rattle.ir_ast.specs.Edges.{count_of, edges, targets}
-use Rattle.ir_ast.specs.Funcs.{Function, instructions_of}
+use Rattle.ir_ast.specs.Funcs.{Function, instructions_of, phis_of}
 use Rattle.ir_ast.specs.Modules.{ModuleContent}
 use Rattle.ir_ast.specs.Lines.{IsCall, IsLine, LineOf, is_argument, is_rewritten}
 use Rattle.ir_ast.specs.Ops.{is_terminator}
@@ -45,7 +45,7 @@ use Rattle.base_forms.specs.Polls.{placed, placed_block, placed_from, poll_call}
 use Rattle.base_forms.specs.DerivedMarks.{derived_marks}
 use Rattle.base_forms.specs.Inserted.{renumbered}
 use Rattle.base_forms.specs.Based.{based, based_blocks, based_insts, based_module, lines_for}
-use Rattle.base_laws.specs.BeforeLiveness.{CallsInShape, IsBeforeLiveness, IsPlainLine, PassesArguments, PhisStandFirst, arguments_of, begins_with_phi}
+use Rattle.base_laws.specs.BeforeLiveness.{CallsInShape, IsBeforeLiveness, IsPlainLine, PassesArguments, PhisStandFirst, arguments_of}
 use Rattle.base_laws.specs.Statements.{BasedIsInShape}
 use Rattle.base_laws.proofs.PlacedLaws.{all_placed}
 use Rattle.base_laws.proofs.PollLaws.{graph_placed}
@@ -284,11 +284,11 @@ module _ (content : ModuleContent) (source : IsSourceModule content) (number : �
       0 (length func.args) func.blocks is_block
 
   entry_now : (blocks : List BasicBlock) (next : ℕ) (block : BasicBlock) → slice_get (based_blocks (placed func) (derived_marks (placed func)) next (placed_from 0 blocks)) 0 ≡ Some block
-      → begins_with_phi block.insts ≡ 0
+      → phis_of block.insts ≡ 0
   entry_now [] next block at = absurd cc
   entry_now (first ∷ blocks) next block at =
       let same : record (placed_block 0 first) { insts = based_insts (placed func) (derived_marks (placed func)) next (placed_block 0 first).insts } ≡ block = cc in
-      sym (ap (λ (b : BasicBlock). begins_with_phi b.insts) same)
+      sym (ap (λ (b : BasicBlock). phis_of b.insts) same)
 
   pub in_shape : IsBeforeLiveness (based_module content) (based (placed func))
   in_shape = record {

@@ -9,7 +9,7 @@ use Rattle.ir_ast.specs.declared.ops.Op.TheVariants.{Call}
 use Rattle.ir_ast.specs.declared.ops.Operand.{Operand}
 use Rattle.ir_ast.specs.Insts.{Instruction}
 use Rattle.ir_ast.specs.Blocks.{BasicBlock, EndsAtTerminator}
-use Rattle.ir_ast.specs.Funcs.{Function, instructions_of}
+use Rattle.ir_ast.specs.Funcs.{Function, instructions_of, phis_of}
 use Rattle.ir_ast.specs.Modules.{ModuleContent}
 use Rattle.ir_ast.specs.Ops.{is_terminator}
 use Rattle.ir_ast.specs.Faults.EntryHasPred.{LeavesEntry}
@@ -18,12 +18,9 @@ use Rattle.ir_ast.specs.Faults.PhiEdges.{is_phi}
 use Rattle.object_meaning.specs.Calls.{function_in}
 use Rattle.object_meaning.specs.Frames.{is_member}
 
-abbrev pub begins_with_phi : List Instruction → ℕ
-begins_with_phi insts = prefix_len (λ inst. is_phi inst.op) insts
-
 -- only phis stand before a phi
 abbrev pub PhisStandFirst : List Instruction → Type 0
-PhisStandFirst insts = (place : ℕ) (inst : Instruction) → slice_get insts place ≡ Some inst → is_phi inst.op ≡ true → place < begins_with_phi insts
+PhisStandFirst insts = (place : ℕ) (inst : Instruction) → slice_get insts place ≡ Some inst → is_phi inst.op ≡ true → place < phis_of insts
 
 abbrev pub arguments_of : ModuleContent → ℕ → ℕ
 arguments_of content number = option_map_or (λ func. length func.args) (slice_get content.funcs number) 0
@@ -50,5 +47,5 @@ pub record IsPlainLine (content : ModuleContent) (inst : Instruction) : Type 0 w
 pub record IsBeforeLiveness (content : ModuleContent) (func : Function) : Type 0 where
   pub ends : All (λ block. EndsAtTerminator block.insts) func.blocks
   pub phis : All (λ block. PhisStandFirst block.insts) func.blocks
-  pub entry : (block : BasicBlock) → slice_get func.blocks 0 ≡ Some block → begins_with_phi block.insts ≡ 0
+  pub entry : (block : BasicBlock) → slice_get func.blocks 0 ≡ Some block → phis_of block.insts ≡ 0
   pub lines : All (IsPlainLine content) (instructions_of func.blocks)

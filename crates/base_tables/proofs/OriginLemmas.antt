@@ -11,7 +11,8 @@ use Rattle.ir_ast.specs.declared.ops.Operand.TheVariants.{Value, Int, Null, Fun}
 use Rattle.base_forms.specs.Bases.{origin_by}
 use Rattle.base_forms.proofs.OriginLaws.{AreSteps, origin_by-step, origin_by-own}
 use Rattle.base_tables.specs.Kinds.{Kind, kind_source, stepped_in, origin_in}
-use Rattle.base_tables.specs.Origins.{named, found_at, AreFound}
+use Rattle.base_tables.specs.Origins.{found_at, AreFound}
+use Rattle.ir_ast.specs.Operands.{named}
 
 kind_stands : (o : Option Kind) (before : Operand) → option_and_then kind_source o ≡ Some before → (kind : Kind) × (o ≡ Some kind)
 kind_stands None before is = absurd (none-some before is)
@@ -27,9 +28,6 @@ are_steps kinds (Fun other) before is = absurd (none-some before is)
 
 pub origin_in-step : (kinds : List Kind) (operand before : Operand) → stepped_in kinds operand ≡ Some before → origin_in kinds operand ≡ origin_in kinds before
 origin_in-step kinds operand before is = origin_by-step (stepped_in kinds) (length kinds) (are_steps kinds) operand before is
-
-pub origin_in-own : (kinds : List Kind) (operand : Operand) → stepped_in kinds operand ≡ None → origin_in kinds operand ≡ operand
-origin_in-own kinds operand none = origin_by-own (stepped_in kinds) (length kinds) operand none
 
 -- one step less is left
 pub one_less : (step : Operand → Option Operand) (size counter : ℕ) (operand before : Operand) → counter < size → step operand ≡ Some before

@@ -24,7 +24,7 @@ use Rattle.ir_ast.specs.Lines.{IsLine}
 use Rattle.ir_ast.specs.Derived.{is_step}
 use Rattle.ir_ast.specs.Faults.UnknownName.{NamesOfFunction, LocalNamesAreKnown}
 use Rattle.ir_ast.specs.Values.{Definition, argument, outcome, definitions_of}
-use Rattle.ir_ast.specs.Operands.{value_in, operands_of, values_used}
+use Rattle.ir_ast.specs.Operands.{value_in, operands_of, values_used, named}
 use Rattle.base_forms.specs.DerivedMarks.{has_mark, derived_marks}
 use Rattle.base_forms.specs.Inserted.{by_line, is_merged, is_negated, has_inserted, inserted_number, new_number}
 use Rattle.base_forms.specs.Bases.{source_of, stepped_from, origin_by, origin, own_base, base_of, bases_for}
@@ -34,7 +34,6 @@ use Rattle.base_tables.specs.Kinds.{Kind, kind_of, any_marked, kind_merged, kind
 use Rattle.base_tables.specs.Flags.{kind_inserted}
 use Rattle.base_tables.specs.Users.{AreMarks}
 use Rattle.base_tables.proofs.DefinitionLemmas.{OfLine, definitions_all, line_at, merged_kind, negated_kind, inserted_kind, same_flags, source_kind, marks_are}
-use Rattle.base_tables.specs.Origins.{named}
 use Rattle.base_tables.specs.Tables.{ValueTables, inserted_base, table_of, values_of, tables_of, marks_before, inserted_in, number_in, own_base_in}
 
 -- ---- marked operands

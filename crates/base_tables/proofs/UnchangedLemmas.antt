@@ -16,9 +16,9 @@ use Rattle.ir_ast.specs.Values.{definitions_of}
 use Rattle.base_tables.specs.Kinds.{Kind, kind_of, kind_merged, kind_negated, origin_in}
 use Rattle.base_tables.specs.Flags.{kind_inserted}
 use Rattle.base_tables.specs.Users.{AreMarks}
-use Rattle.base_tables.specs.Origins.{named}
 use Rattle.base_tables.specs.Tables.{tables_of, unchanged, marks_before, inserted_in, number_in, own_base_in}
 use Rattle.base_tables.proofs.TableLemmas.{map_range_same, IsKnown, origin_known, origin_same, tables_are}
+use Rattle.ir_ast.specs.Operands.{named}
 
 -- ---- marks of which none is set
 

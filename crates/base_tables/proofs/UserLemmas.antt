@@ -16,38 +16,11 @@ use Rattle.ir_ast.specs.declared.ops.Operand.{Operand}
 use Rattle.ir_ast.specs.Operands.{value_in}
 use Rattle.base_forms.specs.DerivedMarks.{has_mark}
 use Rattle.base_tables.specs.Kinds.{Kind, plain, steps, merges, differs, any_marked, kind_merged}
-use Rattle.base_tables.specs.Users.{AddsUsers, Notes, UsedBy, StepsAt, AreSources, DerivedIn, at_step, at_use, AreMarks, kind_steps, closed_at}
+use Rattle.base_tables.specs.Users.{Notes, UsedBy, StepsAt, AreSources, DerivedIn, at_step, at_use, AreMarks, kind_steps, closed_at}
+use Rattle.ir_ast.proofs.OpLaws.{one_operand}
+use Rattle.derived_values.specs.Users.{AddsUsers}
 
 -- ---- adding users
-
-pub adds_none : (user : ℕ) (rows : List (List ℕ)) → AddsUsers [] user rows rows
-adds_none user rows = record {
-  whole = refl;
-  kept = λ value one used. used;
-  added = λ value there below. absurd (contains_none value there);
-  source = λ value one used. inl used;
-}
-
-pub adds_past : (value user : ℕ) (rows : List (List ℕ)) → length rows ≤ value → AddsUsers (value ∷ []) user rows rows
-adds_past value user rows past = record {
-  whole = refl;
-  kept = λ v one used. used;
-  added = λ v there below. let same = contains_one value v there in absurd (omega (arith, same, below));
-  source = λ v one used. inl used;
-}
-
-pub adds_one : (value user : ℕ) (rows new : List (List ℕ)) → value < length rows → new ≡ set rows value (get_or rows value [] ++ user ∷ [])
-    → AddsUsers (value ∷ []) user rows new
-adds_one value user rows new below is = subst (λ (n : List (List ℕ)). AddsUsers (value ∷ []) user rows n) (sym is) (record {
-  whole = length-set rows value (get_or rows value [] ++ user ∷ []);
-  kept = λ v one used. pushed-kept rows value user v one used;
-  added = λ v there inside. subst (λ (w : ℕ). Edge (pushed rows value user) w user) (contains_one value v there) (pushed-added rows value user below);
-  source = λ v one used. source v one (pushed-source rows value user v one used);
-})
-  where
-    source : (v one : ℕ) → Edge rows v one ⊎ ((v ≡ value) × (one ≡ user)) → Edge rows v one ⊎ (Contains (value ∷ []) v × (one ≡ user))
-    source v one (inl used) = inl used
-    source v one (inr t) = inr (subst (λ (w : ℕ). Contains (value ∷ []) w) (sym t.0) (contains_first value []), t.1)
 
 adds_append : (front back : List ℕ) (user : ℕ) (old rows new : List (List ℕ)) → AddsUsers front user old rows → AddsUsers back user rows new
     → AddsUsers (front ++ back) user old new
@@ -73,23 +46,6 @@ adds_append front back user old rows new first then = record {
 one_value : (o : Option ℕ) → option_to_list o ≡ filter_map (λ (x : Option ℕ). x) (o ∷ [])
 one_value None = refl
 one_value (Some value) = refl
-
-one_operand : (operand : Operand) → option_to_list (value_in operand) ≡ filter_map value_in (operand ∷ [])
-one_operand operand = by (value_in operand) refl
-  where
-    by : (o : Option ℕ) → value_in operand ≡ o → option_to_list (value_in operand) ≡ filter_map value_in (operand ∷ [])
-    by None is = rw is refl
-    by (Some value) is = rw is refl
-
--- one operand more
-pub adds_operand : (operands : List Operand) (i : ℕ) (operand : Operand) (user : ℕ) (old rows new : List (List ℕ)) → i < length operands
-    → AddsUsers (filter_map value_in (take i operands)) user old rows
-    → AddsUsers (option_to_list (value_in (get_or operands i operand))) user rows new
-    → AddsUsers (filter_map value_in (take (i + 1) operands)) user old new
-adds_operand operands i operand user old rows new below first then =
-    rw (take_more operands i operand below, filter_map-append value_in (take i operands) (get_or operands i operand ∷ []))
-    (adds_append (filter_map value_in (take i operands)) (filter_map value_in (get_or operands i operand ∷ [])) user old rows new first
-    (subst (λ (vs : List ℕ). AddsUsers vs user rows new) (one_operand (get_or operands i operand)) then))
 
 -- ---- the sources of some values
 
@@ -307,14 +263,6 @@ pub spread_more : {A : Type 0} (seen : A → Kind) (xs : List A) (value : ℕ) (
 spread_more seen xs value d marks new below sound each =
     let stands = get_map seen xs value (get_or xs value d) (slice_get-get_or xs value d below) in
     sound_more (map seen xs) marks new value (seen (get_or xs value d)) stands sound each
-
-pub closed_next : {A : Type 0} (seen : A → Kind) (xs : List A) (value : ℕ) (d : A) (marks : List Bool) → value < length xs
-    → closed_at marks value (seen (get_or xs value d)) ≡ true
-    → ((v : ℕ) (k : Kind) → v < value → slice_get (map seen xs) v ≡ Some k → closed_at marks v k ≡ true)
-    → (v : ℕ) (k : Kind) → v < value + 1 → slice_get (map seen xs) v ≡ Some k → closed_at marks v k ≡ true
-closed_next seen xs value d marks below here before =
-    let stands = get_map seen xs value (get_or xs value d) (slice_get-get_or xs value d below) in
-    closed_more (map seen xs) marks value (seen (get_or xs value d)) stands here before
 
 use_marked : (marks : List Bool) (values : List ℕ) (value : ℕ) → Contains values value → Marked marks value → list_any (has_mark marks) values ≡ true
 use_marked marks [] value there marked = absurd (contains_none value there)

@@ -6,9 +6,7 @@ use Rattle.ir_ast.specs.declared.ops.Operand.TheVariants.{Value}
 use Rattle.base_tables.specs.declared.origins.WayBack.{WayBack}
 use Rattle.base_tables.specs.declared.origins.WayBack.TheVariants.{Ends, Leads}
 use Rattle.base_tables.specs.Kinds.{Kind, stepped_in, origin_in}
-
-abbrev pub named : ℕ → Operand
-named value = Value (record { 0 = value })
+use Rattle.ir_ast.specs.Operands.{named}
 
 abbrev pub found_at : List (Option Operand) → Operand → Option Operand
 found_at found (Value value) = option_and_then (λ origin. origin) (slice_get found value.0)

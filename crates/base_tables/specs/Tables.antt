@@ -11,7 +11,7 @@ use Rattle.base_forms.specs.Bases.{base_of}
 use Rattle.base_forms.specs.Based.{rank_of}
 use Rattle.base_forms.specs.Lines.{Insertion}
 use Rattle.base_tables.specs.Kinds.{any_marked}
-use Rattle.base_tables.specs.Origins.{named}
+use Rattle.ir_ast.specs.Operands.{named}
 
 -- lists by the value's number
 pub record ValueTables : Type 0 where

@@ -7,13 +7,7 @@ use Rattle.ir_ast.specs.declared.ops.Operand.{Operand}
 use Rattle.ir_ast.specs.Operands.{value_in}
 use Rattle.base_forms.specs.DerivedMarks.{has_mark}
 use Rattle.base_tables.specs.Kinds.{Kind, steps, merges, any_marked}
-
--- the user is added to those of these values, as far as the values have rows
-pub record AddsUsers (values : List ℕ) (user : ℕ) (old new : List (List ℕ)) : Type 0 where
-  pub whole : length new ≡ length old
-  pub kept : (value one : ℕ) → Edge old value one → Edge new value one
-  pub added : (value : ℕ) → Contains values value → value < length old → Edge new value user
-  pub source : (value one : ℕ) → Edge new value one → Edge old value one ⊎ (Contains values value × (one ≡ user))
+use Rattle.derived_values.specs.Users.{AddsUsers}
 
 -- what a value of this kind adds to the steps and to the users
 abbrev pub Notes : Kind → ℕ → List ℕ → List ℕ → List (List ℕ) → List (List ℕ) → Type 0

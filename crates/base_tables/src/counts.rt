@@ -1,3 +1,5 @@
+//! Counts of marks, for the numbers of inserted lines.
+
 ghost use Rattle.std.specs.Prelude.{◌≡◌, ◌<◌, ◌^◌, length, map, take, count_by, IfOk};
 ghost use Rattle.std.specs.List.{range_with_len};
 

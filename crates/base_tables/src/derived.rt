@@ -8,7 +8,8 @@ ghost use Rattle.ir_ast.specs.Operands.{value_in};
 ghost use Rattle.base_tables.specs.Seen.{seen_shape};
 ghost use Rattle.graph_search.specs.Paths.{Marked};
 ghost use Rattle.base_tables.specs.Kinds.{Kind, kind_merged};
-ghost use Rattle.base_tables.specs.Users.{AddsUsers, Notes, AreSources, DerivedIn, AreMarks, kind_steps, closed_at};
+ghost use Rattle.base_tables.specs.Users.{Notes, AreSources, DerivedIn, AreMarks, kind_steps, closed_at};
+ghost use Rattle.derived_values.specs.Users.{AddsUsers};
 
 use crate::shapes::Shape;
 use crate::tables::{any_marked, is_merged, mark_at};

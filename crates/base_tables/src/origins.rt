@@ -4,7 +4,8 @@ ghost use Rattle.std.specs.Prelude.{◌≡◌, ◌<◌, ◌^◌, length, map, sl
 ghost use Rattle.std.specs.List.{range_with_len};
 ghost use Rattle.base_tables.specs.Kinds.{stepped_in, origin_in};
 ghost use Rattle.base_tables.specs.Seen.{seen_shape};
-ghost use Rattle.base_tables.specs.Origins.{named, found_at, AreFound, Nears};
+ghost use Rattle.base_tables.specs.Origins.{found_at, AreFound, Nears};
+ghost use Rattle.ir_ast.specs.Operands.{named};
 
 use crate::shapes::Shape;
 use ir_ast::Operand;

@@ -1,3 +1,5 @@
+//! All tables of a function's values, made once before bases are put in.
+
 ghost use Rattle.std.specs.Prelude.{◌≡◌, ◌<◌, ◌^◌, ℕ, ◌++◌, ◌∷◌, [], ◌||◌, true, false, length, map, replicate, Some, slice_get, slice_index, slice_index_or, IfOk};
 ghost use Rattle.std.specs.List.{All, range_with_len};
 ghost use Rattle.ir_ast.specs.Funcs.{instructions_of};

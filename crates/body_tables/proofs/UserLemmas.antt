@@ -16,7 +16,9 @@ use Rattle.derived_values.specs.Givens.{Given, given_of}
 use Rattle.derived_values.specs.Deriveds.{AreMarks}
 use Rattle.derived_values.proofs.FunctionLemmas.{in_derived, derived_in}
 use Rattle.body_tables.specs.Bodies.{inst_of, any_step}
-use Rattle.body_tables.specs.Derivations.{giver_of, MarksDerived, has_mark}
+use Rattle.body_tables.specs.Derivations.{giver_of, MarksDerived}
+use Rattle.ir_ast.proofs.OpLaws.{mark_got, got_mark}
+use Rattle.ir_ast.specs.Lists.{has_mark}
 
 -- ---- the marks are those of the derived values
 
@@ -39,23 +41,13 @@ marks_derived func marks found =
 
 -- ---- what leaves
 
-mark-of : (marks : List Bool) (value : ℕ) → has_mark marks value ≡ true → slice_get marks value ≡ Some true
-mark-of [] value e = absurd (false≢true e)
-mark-of (m ∷ ms) zero e = ap Some e
-mark-of (m ∷ ms) (suc value) e = mark-of ms value e
-
-of-mark : (marks : List Bool) (value : ℕ) → slice_get marks value ≡ Some true → has_mark marks value ≡ true
-of-mark [] value e = absurd (none-some true e)
-of-mark (m ∷ ms) zero e = same_Some m true e
-of-mark (m ∷ ms) (suc value) e = of-mark ms value e
-
 pub escapes-iff : (func : Function) (marks : List Bool) (inst : Instruction) (lets : Bool) → MarksDerived func marks
     → lets ≡ list_any (has_mark marks) (values_leaving inst) → (IsTrue lets ↔ ¬ KeepsDerived func inst)
 escapes-iff func marks inst lets are is = (
   (λ t keeps. let f = any_contained (has_mark marks) (values_leaving inst) (sym is ∙ t) in
       let at = get_contained (values_leaving inst) f.0 f.1 in
       all_at (λ (value : ℕ). ¬ Derived func value) (values_leaving inst) at.0 f.0 keeps at.1
-      (are.sound f.0 (mark-of marks f.0 f.2))),
+      (are.sound f.0 (mark_got marks f.0 f.2))),
   (λ n. is ∙ by (list_any (has_mark marks) (values_leaving inst)) refl n),
 )
   where
@@ -63,7 +55,7 @@ escapes-iff func marks inst lets are is = (
     by true e n = refl
     by false e n = absurd (n (all_contained (λ (value : ℕ). ¬ Derived func value) (values_leaving inst)
         (λ value there derived. false≢true (sym e ∙ contained_any (has_mark marks) (values_leaving inst) value there
-        (of-mark marks value (are.complete value derived))))))
+        (got_mark marks value (are.complete value derived))))))
 
 -- ---- without a step
 

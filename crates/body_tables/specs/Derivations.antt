@@ -14,6 +14,3 @@ giver_of (Some inst) = given_by inst.op (values_used inst)
 pub record MarksDerived (func : Function) (marks : List Bool) : Type 0 where
   pub sound : (value : ℕ) → slice_get marks value ≡ Some true → Derived func value
   pub complete : (value : ℕ) → Derived func value → slice_get marks value ≡ Some true
-
-abbrev pub has_mark : List Bool → ℕ → Bool
-has_mark marks value = slice_index_or marks value false

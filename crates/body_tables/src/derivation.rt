@@ -7,8 +7,9 @@ ghost use Rattle.ir_ast.specs.Operands.{value_in, values_used};
 ghost use Rattle.ir_ast.specs.Faults.DerivedEscapes.{values_leaving};
 ghost use Rattle.ir_ast.specs.Funcs.{instructions_of};
 ghost use Rattle.derived_values.specs.Givens.{given_by, seen_giver};
-ghost use Rattle.body_tables.specs.Derivations.{giver_of, MarksDerived, has_mark};
+ghost use Rattle.body_tables.specs.Derivations.{giver_of, MarksDerived};
 ghost use Rattle.body_tables.specs.Bodies.{seen_insts};
+ghost use Rattle.ir_ast.specs.Lists.{has_mark};
 
 use crate::bodies::givers;
 use derived_values::{Giver, Givers, derived_marks};

@@ -9,6 +9,7 @@ use Rattle.std.proofs.Math.ListN.{take}
 use Rattle.std.proofs.Math.Nat.{mul-le-mul_right}
 use Rattle.cell_rows.specs.declared.shapes.Shape.{Shape}
 use Rattle.cell_rows.specs.Rows.{sizes, before, place_in, AreOrdered, AreLaid}
+use Rattle.list_laws.proofs.Numbers.{less}
 
 -- ---- lists cut at a place
 
@@ -36,9 +37,6 @@ get_front (suc n) (suc p) (x ∷ xs) =
     ]
 
 -- ---- where a cell stands
-
-less : (a b : ℕ) → suc a < suc b → a < b
-less a b h = omega arith
 
 shifted : (b : Bool) (n m cell : ℕ) → option_map (λ place. n + place) (cond b (Some (m + cell)) None) ≡ cond b (Some ((n + m) + cell)) None
 shifted true n m cell = ap (λ p. Some p) (let e : n + (m + cell) ≡ (n + m) + cell = omega arith in e)

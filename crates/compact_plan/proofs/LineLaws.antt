@@ -13,6 +13,7 @@ use Rattle.move_plan.specs.Plans.{event_of, flips, flips_at, go, group, move_at,
 use Rattle.compact_plan.specs.declared.made.Made.{Made}
 use Rattle.compact_plan.specs.Compacting.{compacted, front_lines, is_front, is_later, later_lines, packed, packing, stands_before}
 use Rattle.compact_plan.specs.Promises.{OthersStay, SaysTheSame}
+use Rattle.list_laws.proofs.Booleans.{or_false}
 
 pub le_or_lt : (a b : ℕ) → (a ≤ b) ⊎ (b < a)
 le_or_lt a b = elim (leb_tells a b) [ inl low ↦ inl low.1 | inr high ↦ inr high.1 ]
@@ -193,10 +194,6 @@ nowhere at event line isnt not_behind = elim (passed event line isnt) [
   | behind after ↦ absurd (let within = not_later event line not_behind in let no : ⊥ = omega (arith, after, within) in no)
   | moves obj to is ↦ ap (flips_at at) is
 ]
-
-or_false : (a : Bool) → (a || false) ≡ a
-or_false true = refl
-or_false false = refl
 
 flips_same : (plan : List PlanLine) (made : List Made) (event at : ℕ) → flips (compacted plan made event) at ≡ flips plan at
 flips_same plan made event at =

@@ -16,6 +16,7 @@ use Rattle.compact_plan.specs.Compacting.{compacted, front_lines, is_front, is_l
 use Rattle.compact_plan.specs.Objects.{ArePacked, IsWhole}
 use Rattle.compact_plan.specs.Promises.{CompactedIsPlan, IsEvent}
 use Rattle.compact_plan.proofs.LineLaws.{front_within, later_behind, le_or_lt}
+use Rattle.std.proofs.lemmas.Bool.{cases_order}
 
 -- a line may stand behind another
 pub record Follows (one other : PlanLine) : Type 0 where
@@ -24,9 +25,6 @@ pub record Follows (one other : PlanLine) : Type 0 where
   pub one_go : (event task another : ℕ) → one ≡ Go event task → other ≡ Go event another → ⊥
 
 -- ---- lists of which each two elements go together
-
-all_pairs_nil : {X : Type 0} (R : X → X → Type 0) → AllPairs R []
-all_pairs_nil R i j d before within = absurd (omega (arith, within))
 
 all_pairs_tail : {X : Type 0} (R : X → X → Type 0) (x : X) (xs : List X) → AllPairs R (x ∷ xs) → AllPairs R xs
 all_pairs_tail R x xs all i j d before within = all (suc i) (suc j) d (omega (arith, before)) (omega (arith, within))
@@ -42,12 +40,6 @@ all_pairs_append R (x ∷ xs) ys first second across =
 
 up_or : (i j : ℕ) → i ≤ j → (i ≡ j) ⊎ (i < j)
 up_or i j up = elim (le_or_lt j i) [ inl back ↦ inl (omega (arith, up, back)) | inr less ↦ inr less ]
-
-order : (i j : ℕ) → (i ≡ j) ⊎ ((i < j) ⊎ (j < i))
-order i j = elim (le_or_lt i j) [
-  | inl up ↦ elim (le_or_lt j i) [ inl back ↦ inl (omega (arith, up, back)) | inr less ↦ inr (inl less) ]
-  | inr more ↦ inr (inr more)
-]
 
 -- ---- a plan by pairs of its lines
 
@@ -184,6 +176,6 @@ compacted_is_plan plan made event is packs numbered few =
           (All-filter (is_later event) IsInRange plan is.in_range);
       rises = λ i j d before within. rises_from (compacted plan made event) all i j d before within (up_or i j before);
       every_first = every_from (compacted plan made event) all;
-      one_go = λ place other at task another here there. go_from (compacted plan made event) all place other at task another here there (order place other);
+      one_go = λ place other at task another here there. go_from (compacted plan made event) all place other at task another here there (cases_order place other);
       few = few;
     }

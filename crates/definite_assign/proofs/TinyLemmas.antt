@@ -28,29 +28,3 @@ no_phi value zero block before after phi stands split is =
     let insts : block.insts ≡ sum_line value ∷ return_line ∷ [] = ap (λ (b : BasicBlock). b.insts) (let same : block ≡ record { name = []; insts = sum_line value ∷ return_line ∷ [] } = cc in same) in
     absurd (none value before after phi (sym insts ∙ split) is)
 no_phi value (suc number) block before after phi stands split is = absurd (let never : None ≡ Some block = stands in cc)
-
-pub tiny_formed : (value : ℕ) → value < 2 → IsFormed (tiny value)
-tiny_formed value below = record {
-  has_block = omega arith;
-  widths = All-cons IsWidth 64 (64 ∷ []) (omega arith, omega arith) (All-cons IsWidth 64 [] (omega arith, omega arith) (All-nil IsWidth));
-  lines = All-cons IsLine (sum_line value) (return_line ∷ [])
-      (record { result = refl; type = refl; operand_count = refl; values = refl; label_count = refl; no_bundle = refl })
-      (All-cons IsLine return_line [] (record { result = refl; type = refl; operand_count = refl; values = refl; label_count = refl; no_bundle = refl }) (All-nil IsLine));
-  known = All-cons (NamesOfFunction (tiny value)) (sum_line value) (return_line ∷ [])
-      (record { values = All-cons (λ v. v < 2) value [] below (All-nil (λ v. v < 2)); blocks = All-nil (λ (label : BlockId). label.0 < 1) })
-      (All-cons (NamesOfFunction (tiny value)) return_line []
-      (record { values = All-nil (λ v. v < 2); blocks = All-nil (λ (label : BlockId). label.0 < 1) }) (All-nil (NamesOfFunction (tiny value))));
-  phis = no_phi value;
-  entry = All-cons LeavesEntry (sum_line value) (return_line ∷ []) (λ _. All-nil (λ (label : BlockId). label.0 ≢ 0))
-      (All-cons LeavesEntry return_line [] (λ _. All-nil (λ (label : BlockId). label.0 ≢ 0)) (All-nil LeavesEntry));
-}
-
-pub tiny_ends : (value : ℕ) (insts : List Instruction) (one last : Instruction) → insts ≡ one ∷ last ∷ [] → one ≡ sum_line value → last ≡ return_line
-    → EndsAtTerminator insts
-tiny_ends value insts one last whole one_is last_is = record {
-  before = one ∷ [];
-  last = last;
-  whole = whole;
-  ends = ap (λ (i : Instruction). is_terminator i.op) last_is;
-  inside = ap (λ (i : Instruction). list_all (λ (inst : Instruction). not (is_terminator inst.op)) (i ∷ [])) one_is;
-}

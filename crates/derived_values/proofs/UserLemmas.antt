@@ -17,6 +17,7 @@ use Rattle.ir_ast.specs.Operands.{value_in}
 use Rattle.derived_values.specs.Givens.{Given, other, step, merge}
 use Rattle.derived_values.specs.Deriveds.{UsedBy, DerivedIn, at_step, at_use, AreMarks}
 use Rattle.derived_values.specs.Users.{AddsUsers, Notes, AreSources}
+use Rattle.ir_ast.proofs.OpLaws.{one_operand}
 
 -- ---- adding users
 
@@ -73,13 +74,6 @@ adds_append front back user old rows new first next = record {
 one_value : (o : Option ℕ) → option_to_list o ≡ filter_map (λ (x : Option ℕ). x) (o ∷ [])
 one_value None = refl
 one_value (Some value) = refl
-
-one_operand : (operand : Operand) → option_to_list (value_in operand) ≡ filter_map value_in (operand ∷ [])
-one_operand operand = by (value_in operand) refl
-  where
-    by : (o : Option ℕ) → value_in operand ≡ o → option_to_list (value_in operand) ≡ filter_map value_in (operand ∷ [])
-    by None is = rw is refl
-    by (Some value) is = rw is refl
 
 -- one operand more
 pub adds_operand : (operands : List Operand) (i : ℕ) (operand : Operand) (user : ℕ) (old rows new : List (List ℕ)) → i < length operands

@@ -1,7 +1,7 @@
 -- A block with other numbers, or with the group in place of its first line, ends as before.
 use Rattle.std.proofs.Common.{◌≡◌, ◌∙◌, ℕ, suc, Bool, true, false, not, List, [], ◌∷◌, ◌++◌, map, Option, Some, None, refl, ap, sym, arith, append_assoc}
 use Rattle.std.specs.List.{list_all}
-use Rattle.std.proofs.lemmas.Bool.{false≢true, true≢false}
+use Rattle.std.proofs.lemmas.Bool.{false≢true, true≢false, not-true}
 use Rattle.std.proofs.lemmas.List.{map-append}
 use Rattle.std.proofs.lemmas.List.Folds.{list_all-append}
 use Rattle.ir_ast.specs.declared.types.Ty.{Ty}
@@ -14,6 +14,7 @@ use Rattle.statepoint_insert.specs.declared.groups.Relocate.{Relocate}
 use Rattle.statepoint_insert.specs.Groups.{GroupContent}
 use Rattle.statepoint_insert.specs.Texts.{result_lines, relocate_lines}
 use Rattle.entry_groups.specs.Entry.{put_line, put_block, first_lines, entry_lines, goes_on, entry_block, blocks_behind}
+use Rattle.ssa_rebuild.proofs.EndLemmas.{results_pass, relocates_pass}
 
 abbrev passes_by : Instruction → Bool
 passes_by inst = not (is_terminator inst.op)
@@ -33,15 +34,6 @@ ends_put row insts ends = record {
   ends = ends.ends;
   inside = lines_pass row ends.before ends.inside;
 }
-
-relocates_pass : (token count rank : ℕ) (relocates : List Relocate) → list_all passes_by (relocate_lines token count rank relocates) ≡ true
-relocates_pass token count rank [] = refl
-relocates_pass token count rank (relocate ∷ relocates) = relocates_pass token (suc count) (suc rank) relocates
-
-results_pass : (token : ℕ) (ty : Ty) (named : Option (List ℕ)) (rest : List Instruction) → list_all passes_by rest ≡ true
-    → list_all passes_by (result_lines token ty named ++ rest) ≡ true
-results_pass token ty None rest all = all
-results_pass token ty (Some name) rest all = all
 
 first_passes : (token : ℕ) (group : GroupContent) (inst : Instruction) (op : Op) → list_all passes_by (first_lines token group inst op) ≡ true
 first_passes token group inst (Call callee types) = results_pass token inst.ty inst.result _ (relocates_pass token 0 _ group.relocates)
@@ -73,14 +65,10 @@ ends_entry token group row inst insts ends own =
     ends_behind (first_lines token group inst inst.op) (map (put_line row) insts) (first_passes token group inst inst.op)
     (ends_put row insts (ends_rest inst insts ends.before ends.last ends.whole ends.ends ends.inside own))
 
-passing : (t : Bool) → not t ≡ true → t ≡ false
-passing true is = absurd (false≢true is)
-passing false is = refl
-
 pub ends_lines : (token : ℕ) (group : GroupContent) (row : List ℕ) (insts : List Instruction) → EndsAtTerminator insts → goes_on insts ≡ true
     → EndsAtTerminator (entry_lines token group row insts)
 ends_lines token group row [] ends is = absurd (false≢true is)
-ends_lines token group row (inst ∷ insts) ends is = ends_entry token group row inst insts ends (passing (is_terminator inst.op) is)
+ends_lines token group row (inst ∷ insts) ends is = ends_entry token group row inst insts ends (not-true (is_terminator inst.op) is)
 
 -- ---- blocks one after another
 

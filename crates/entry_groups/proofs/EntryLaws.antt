@@ -1,8 +1,8 @@
 -- The rewritten function of one that waits at its first line alone.
-use Rattle.std.proofs.Common.{◌≡◌, ◌∙◌, ℕ, zero, suc, ◌<◌, ◌≤◌, ◌+◌, inl, inr, ◌⊎◌, Bool, true, false, not, ◌&&◌, ◌||◌, List, [], ◌∷◌, length, map, Option, Some, None, is_some, slice_get, refl, ap, sym, arith, subst}
-use Rattle.std.specs.Prelude.{nat_lt}
+use Rattle.std.proofs.Common.{◌≡◌, ◌∙◌, ℕ, zero, suc, ◌<◌, ◌≤◌, ◌+◌, inl, inr, Bool, true, false, not, ◌&&◌, List, [], ◌∷◌, length, map, Option, Some, None, is_some, slice_get, refl, ap, sym, arith, subst}
+use Rattle.std.specs.Prelude.{nat_lt, slice_index_or}
 use Rattle.std.specs.List.{list_all, range_with_len}
-use Rattle.std.proofs.lemmas.Bool.{cases_Bool, cases_eq, false≢true, true≢false, and_parts, or_cases, ltb-true}
+use Rattle.std.proofs.lemmas.Bool.{cases_eq, false≢true, true≢false, and_parts, ltb-true}
 use Rattle.std.proofs.lemmas.List.{length-map}
 use Rattle.list_laws.proofs.Places.{get_map}
 use Rattle.sp_ids.specs.declared.ids.BlockId.{BlockId}
@@ -15,18 +15,20 @@ use Rattle.ir_ast.specs.declared.ops.Operand.{Operand}
 use Rattle.ir_ast.specs.Callees.{is_leaf}
 use Rattle.ir_ast.specs.Insts.{Instruction}
 use Rattle.ir_ast.specs.Blocks.{BasicBlock}
+use Rattle.ir_ast.specs.Edges.{targets}
 use Rattle.ir_ast.specs.Funcs.{Function, instructions_of}
-use Rattle.ir_cfg.specs.Graphs.{graph_of}
-use Rattle.rewriting_forms.specs.Numbered.{among, is_call, preds}
+use Rattle.rewriting_forms.specs.Numbered.{among, is_call}
 use Rattle.rewriting_forms.specs.Liveness.{live_list, live_lists}
-use Rattle.rewriting_forms.specs.Names.{is_many}
 use Rattle.rewriting_forms.specs.Rewritten.{rewritten}
+use Rattle.rewriting_laws.specs.Laws.{Edge}
+use Rattle.rewriting_laws.proofs.LiveLaws.{edge_succs}
+use Rattle.rewriting_laws.proofs.VersionLaws.{edge_within}
 use Rattle.rewriting_laws.proofs.NameLemmas.{among_cons, is_one, is_none, call_or_not}
 use Rattle.statepoint_insert.specs.declared.groups.Relocate.{Relocate}
 use Rattle.statepoint_insert.specs.Groups.{GroupContent, relocate_in, group_of, groups_of}
 use Rattle.statepoint_insert.specs.Marked.{IsReady}
 use Rattle.statepoint_insert.proofs.CallLaws.{call_list}
-use Rattle.entry_groups.specs.Entry.{is_none_of, has_no_parts, is_bare, enters_bare, is_one_below, relocates_none, are_few, meets_nowhere, waits_at_entry, behind_group, numbers_behind, blocks_behind}
+use Rattle.entry_groups.specs.Entry.{is_none_of, has_no_parts, is_bare, enters_bare, is_one_below, leads_forward, leads_on, waits_at_entry, behind_group, numbers_behind, blocks_behind}
 use Rattle.entry_groups.proofs.RangeLaws.{all_cons, all_range}
 use Rattle.entry_groups.proofs.VersionLaws.{Parts, whole, WaitsFirst}
 use Rattle.entry_groups.proofs.TextLaws.{whole_text}
@@ -49,13 +51,24 @@ below_all table vs (x ∷ xs) n all v is =
       | inr ne ↦ below_all table vs xs n both.1 v (among_cons v x xs is ne)
     ]
 
-no_items : (table : List Operand) (vs xs : List ℕ) → is_none_of (map (relocate_in table vs) xs) ≡ true → xs ≡ []
-no_items table vs [] is = refl
-no_items table vs (x ∷ xs) is = absurd (false≢true is)
+-- what a test of all labels says of one among them
+each_label : (p : BlockId → Bool) (labels : List BlockId) → list_all p labels ≡ true → (to : ℕ) → among to (map (λ (l : BlockId). l.0) labels) ≡ true
+    → (label : BlockId) × (label.0 ≡ to) × (p label ≡ true)
+each_label p [] all to has = absurd (false≢true has)
+each_label p (label ∷ labels) all to has =
+    let both = all_cons p label labels all in
+    elim (cases_eq label.0 to) [
+      | inl is ↦ (label, is, both.0)
+      | inr other ↦ each_label p labels both.1 to (among_cons to label.0 (map (λ (l : BlockId). l.0) labels) has other)
+    ]
 
-few_preds : (t : Bool) → not t ≡ true → t ≡ false
-few_preds true is = absurd (false≢true is)
-few_preds false is = refl
+leads : (func : Function) → leads_forward func.blocks ≡ true → (from to : ℕ) → Edge func from to → from < to
+leads func forward from to edge =
+    let here : leads_on func.blocks from ≡ true = all_range (leads_on func.blocks) 0 (length func.blocks) forward from (omega arith) (let below = edge_within func from to edge in omega (arith, below)) in
+    let label = each_label (λ l. nat_lt from l.0) (slice_index_or (map targets func.blocks) from []) here to (edge_succs func from to edge) in
+    let past : from < label.0.0 = ltb-true from label.0.0 label.2 in
+    let is = label.1 in
+    omega (arith, past, is)
 
 -- a function whose parts are known
 abbrev IsLaw : Function → List Operand → Type 0
@@ -66,27 +79,21 @@ parts_law : (parts : Parts) (table : List Operand) → is_leaf parts.callee ≡ 
 parts_law parts table other group ready groups waits =
     let func = whole parts in
     let list = live_list func table 0 0 in
-    let tested = and_parts (enters_bare func.blocks) (is_one_below (length parts.args) (group ∷ []) && (relocates_none (group ∷ []) || meets_nowhere func)) waits in
-    let both = and_parts (is_one_below (length parts.args) (group ∷ [])) (relocates_none (group ∷ []) || meets_nowhere func) tested.1 in
+    let tested = and_parts (enters_bare func.blocks) (is_one_below (length parts.args) (group ∷ []) && leads_forward func.blocks) waits in
+    let both = and_parts (is_one_below (length parts.args) (group ∷ [])) (leads_forward func.blocks) tested.1 in
     let one : length (live_lists func table) ≡ 1 = sym (length-map (live_lists func table) (group_of table)) ∙ ap (λ (gs : List GroupContent). length gs) groups in
     let first : slice_get (live_lists func table) 0 ≡ Some list = call_list func table 0 0 _ (omega arith) refl (ap not other) in
     let same : Some (group_of table list) ≡ Some group =
     sym (get_map (group_of table) (live_lists func table) 0 list first) ∙ ap (λ (gs : List GroupContent). slice_get gs 0) groups in
     let is : group_of table list ≡ group = cc in
     let inside = subst (λ (g : GroupContent). list_all (λ relocate. nat_lt relocate.value.0 (length parts.args)) g.relocates ≡ true) (sym is) both.0 in
-    let few : (relocates_none (group ∷ []) ≡ true) ⊎ (meets_nowhere func ≡ true) = or_cases (relocates_none (group ∷ [])) (meets_nowhere func) both.1 in
-    let apart : (list ≡ []) ⊎ ((b : ℕ) → b < length func.blocks → is_many (preds func b) ≡ false) = elim few [
-      | inl none ↦
-          let own = (all_cons (λ (g : GroupContent). is_none_of g.relocates) group [] none).0 in
-          inl (no_items table list list (subst (λ (g : GroupContent). is_none_of g.relocates ≡ true) (sym is) own))
-      | inr nowhere ↦ inr (λ b below. few_preds (is_many (preds func b)) (all_range (are_few (graph_of func)) 0 (length func.blocks) nowhere b (omega arith) (omega (arith, below))))
-    ] in
     let first_waits : WaitsFirst parts table = record {
       reached = ready.reached;
+      phis = (ready.formed).phis;
       other = other;
       one = one;
       arguments = below_all table list list (length parts.args) inside;
-      apart = apart;
+      forward = leads func both.1;
     } in
     ap (λ (g : GroupContent). blocks_behind (length parts.args) g (numbers_behind func g.relocates) func.blocks) (sym is)
     ∙ whole_text parts table first_waits ready.formed
@@ -141,7 +148,7 @@ blocks_law func (block ∷ blocks) table is = by block.insts refl
 
 pub entry_law : (func : Function) (table : List Operand) → IsLaw func table
 entry_law func table group ready groups waits =
-    let tested = and_parts (enters_bare func.blocks) (is_one_below (length func.args) (group ∷ []) && (relocates_none (group ∷ []) || meets_nowhere func)) waits in
+    let tested = and_parts (enters_bare func.blocks) (is_one_below (length func.args) (group ∷ []) && leads_forward func.blocks) waits in
     blocks_law func func.blocks table tested.0 group ready groups waits
 
 -- the same by what the parts of the code give

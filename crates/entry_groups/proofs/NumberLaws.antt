@@ -8,7 +8,7 @@ use Rattle.std.proofs.lemmas.List.{length-map, map-append, length-set, get_or-se
 use Rattle.std.proofs.lemmas.List.Elements.{filter-append}
 use Rattle.std.proofs.lemmas.List.FromFn.{length-range_with_len}
 use Rattle.std.proofs.lemmas.Option.{slice_get_within, get_or_from_slice_get}
-use Rattle.list_laws.proofs.Places.{get_map}
+use Rattle.list_laws.proofs.Places.{get_map, get_front, drop_none}
 use Rattle.ir_ast.specs.declared.ops.Operand.{Operand}
 use Rattle.ir_ast.specs.Insts.{Instruction}
 use Rattle.ir_ast.specs.Blocks.{BasicBlock}
@@ -17,31 +17,24 @@ use Rattle.object_meaning.specs.Lines.{Line, following, after_all, first_registe
 use Rattle.object_meaning.specs.TargetRuns.{plain_lines}
 use Rattle.rewriting_forms.specs.Numbered.{among, lines_at, line_at, calls, pointers}
 use Rattle.rewriting_forms.specs.Liveness.{live_list}
-use Rattle.rewriting_forms.specs.Names.{Name, own, relocated, joined, token, Naming, joins_of, naming_of}
+use Rattle.rewriting_forms.specs.Names.{Name, own, relocated, joined, token, Naming, naming_of}
 use Rattle.rewriting_forms.specs.Rewritten.{place_in, line_names, joined_at, block_names, names_of}
 use Rattle.rewriting_laws.proofs.NameLemmas.{line_is, at_rest}
-use Rattle.rewriting_laws.proofs.PlaceLaws.{place_is, get_front, get_back}
+use Rattle.rewriting_laws.proofs.PlaceLaws.{place_is, get_back}
 use Rattle.rewriting_laws.proofs.ApartLaws.{names_apart}
 use Rattle.statepoint_insert.specs.declared.groups.Relocate.{Relocate}
 use Rattle.statepoint_insert.specs.Groups.{relocate_in}
-use Rattle.ssa_rebuild.proofs.TaskLaws.{results, after_is, first_next, first_zero}
+use Rattle.ssa_rebuild.proofs.TaskLaws.{results, after_is, first_next, first_zero, lines_own}
 use Rattle.entry_groups.specs.Entry.{moved, behind_group}
 use Rattle.entry_groups.proofs.VersionLaws.{Parts, first_of, entry_of, whole, WaitsFirst, first_line, calls_first, calls_no, no_joins, settled, settled_own}
+use Rattle.ssa_rebuild.proofs.InsideLaws.{results_append}
+use Rattle.list_laws.proofs.Ranges.{range_append, range_get}
 
 -- ---- lists
-
-pub drop_none : {A : Type 0} (xs : List A) → drop 0 xs ≡ xs
-drop_none [] = refl
-drop_none (x ∷ xs) = refl
 
 filter_none : (p : ℕ → Bool) (xs : List ℕ) → ((x : ℕ) → p x ≡ false) → filter p xs ≡ []
 filter_none p [] all = refl
 filter_none p (x ∷ xs) all = rw (all x) (filter_none p xs all)
-
-results_append : (one other : List Instruction) → results (one ++ other) ≡ results one + results other
-results_append one other =
-    ap length (filter-append (λ (inst : Instruction). is_some inst.result) one other)
-    ∙ length-append (filter (λ (inst : Instruction). is_some inst.result) one) (filter (λ (inst : Instruction). is_some inst.result) other)
 
 results_few : (insts : List Instruction) → results insts ≤ length insts
 results_few [] = omega arith
@@ -50,31 +43,8 @@ results_few (inst ∷ insts) = elim (cases_Bool (is_some inst.result)) [
   | inr not ↦ (let rest = results_few insts in rw not (omega (arith, rest)))
 ]
 
-range_append : (from one other : ℕ) → range_with_len from (one + other) ≡ range_with_len from one ++ range_with_len (from + one) other
-range_append from zero other =
-    let z : 0 + other ≡ other = omega arith in
-    let e : from ≡ from + 0 = omega arith in
-    ap (range_with_len from) z ∙ ap (λ (m : ℕ). range_with_len m other) e
-range_append from (suc one) other =
-    let s : suc one + other ≡ suc (one + other) = omega arith in
-    let e : (from + 1) + one ≡ from + suc one = omega arith in
-    ap (range_with_len from) s ∙ ap (λ (xs : List ℕ). from ∷ xs) (range_append (from + 1) one other)
-    ∙ ap (λ (m : ℕ). from ∷ (range_with_len (from + 1) one ++ range_with_len m other)) e
-
-range_get : (from count k : ℕ) → k < count → slice_get (range_with_len from count) k ≡ Some (from + k)
-range_get from zero k below = absurd (omega arith)
-range_get from (suc count) zero below = let e : from ≡ from + 0 = omega arith in ap Some e
-range_get from (suc count) (suc k) below = let e : (from + 1) + k ≡ from + suc k = omega arith in range_get (from + 1) count k (omega arith) ∙ ap Some e
-
 abbrev own_names : Line → List Name
 own_names line = option_map_or (λ x. own x ∷ []) line.to []
-
-lines_own : (next : ℕ) (insts : List Instruction) → flat_map own_names (plain_lines next insts) ≡ map own (range_with_len next (results insts))
-lines_own next [] = refl
-lines_own next (inst ∷ insts) = elim (cases_Bool (is_some inst.result)) [
-  | inl is ↦ rw is (ap (λ (ns : List Name). own next ∷ ns) (lines_own (next + 1) insts))
-  | inr not ↦ rw not (lines_own next insts)
-]
 
 module _ (parts : Parts) (table : List Operand) (waits : WaitsFirst parts table) where
   abbrev func : Function
@@ -107,7 +77,7 @@ module _ (parts : Parts) (table : List Operand) (waits : WaitsFirst parts table)
   -- ---- the names of the text
 
   pub joined_none : (b : ℕ) → b < length func.blocks → joined_at func naming b ≡ []
-  joined_none b below = filter_none (joins_of func table b) (pointers func) (λ v. no_joins parts table waits b v below)
+  joined_none b below = filter_none (naming.joins b) (pointers func) (λ v. no_joins parts table waits b v below)
 
   named_from : (b k : ℕ) (lines : List Line) → drop k (lines_at func b) ≡ lines → (b ≡ 0 → k ≡ 0 → ⊥)
       → flat_map (line_names func table b) (range_with_len k (length lines)) ≡ flat_map own_names lines

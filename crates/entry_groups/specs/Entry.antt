@@ -1,8 +1,6 @@
--- A function that waits at its first line alone, as at its poll, and in which no versions meet.
-use Rattle.std.specs.Prelude.{ℕ, suc, ◌+◌, ◌&&◌, ◌||◌, nat_lt, Bool, true, false, not, List, [], ◌∷◌, ◌++◌, length, map, is_some, slice_get, slice_index, slice_set}
+-- A function that waits at its first line alone, as at its poll, and whose edges lead forward.
+use Rattle.std.specs.Prelude.{ℕ, suc, ◌+◌, ◌&&◌, nat_lt, Bool, true, false, not, List, [], ◌∷◌, ◌++◌, length, map, is_some, slice_index, slice_index_or, slice_set}
 use Rattle.std.specs.List.{list_all, range_with_len}
-use Rattle.std.specs.Option.{option_map_or}
-use Rattle.sp_ids.specs.declared.ids.BlockId.{BlockId}
 use Rattle.ir_ast.specs.declared.ops.Op.{Op}
 use Rattle.ir_ast.specs.declared.ops.Op.TheVariants.{Call}
 use Rattle.ir_ast.specs.declared.ops.Operand.{Operand}
@@ -10,13 +8,13 @@ use Rattle.ir_ast.specs.declared.ops.Operand.TheVariants.{Value, Int, Null, Fun}
 use Rattle.ir_ast.specs.Ops.{is_terminator}
 use Rattle.ir_ast.specs.Insts.{Instruction}
 use Rattle.ir_ast.specs.Blocks.{BasicBlock}
+use Rattle.ir_ast.specs.Edges.{targets}
 use Rattle.ir_ast.specs.Funcs.{Function, instructions_of}
-use Rattle.ir_cfg.specs.Graphs.{graph_of, preds_of}
 use Rattle.rewriting_forms.specs.Numbered.{named, is_call}
-use Rattle.rewriting_forms.specs.Names.{is_many}
 use Rattle.statepoint_insert.specs.declared.groups.Relocate.{Relocate}
 use Rattle.statepoint_insert.specs.Groups.{GroupContent}
 use Rattle.statepoint_insert.specs.Texts.{statepoint_line, result_lines, relocate_lines, first_rank}
+use Rattle.ssa_rebuild.specs.Rows.{group_list}
 
 abbrev pub is_none_of : {A : Type 0} → List A → Bool
 is_none_of [] = true
@@ -42,20 +40,17 @@ abbrev pub is_one_below : ℕ → List GroupContent → Bool
 is_one_below count (group ∷ []) = list_all (λ relocate. nat_lt relocate.value.0 count) group.relocates
 is_one_below count groups = false
 
-abbrev pub relocates_none : List GroupContent → Bool
-relocates_none groups = list_all (λ group. is_none_of group.relocates) groups
+-- each edge of the block with this number leads to a later one
+abbrev pub leads_on : List BasicBlock → ℕ → Bool
+leads_on blocks b = list_all (λ label. nat_lt b label.0) (slice_index_or (map targets blocks) b [])
 
--- no two edges lead into a block
-abbrev pub are_few : List (List BlockId) → ℕ → Bool
-are_few graph b = not (is_many (map (λ label. label.0) (preds_of graph b)))
+abbrev pub leads_forward : List BasicBlock → Bool
+leads_forward blocks = list_all (leads_on blocks) (range_with_len 0 (length blocks))
 
-abbrev pub meets_nowhere : Function → Bool
-meets_nowhere func = list_all (are_few (graph_of func)) (range_with_len 0 (length func.blocks))
-
--- the only group is that of the first line, it relocates arguments alone, and these keep one version each
+-- the only group is that of the first line, it relocates arguments alone, and no way comes back to a block
 abbrev pub waits_at_entry : Function → List GroupContent → Bool
 waits_at_entry func groups =
-    enters_bare func.blocks && (is_one_below (length func.args) groups && (relocates_none groups || meets_nowhere func))
+    enters_bare func.blocks && (is_one_below (length func.args) groups && leads_forward func.blocks)
 
 -- ---- the numbers of values behind the group
 
@@ -86,13 +81,10 @@ put_block row block = record block { insts = map (put_line row) block.insts }
 
 -- ---- the group
 
-abbrev pub group_values : GroupContent → List ℕ
-group_values group = map (λ relocate. relocate.value.0) group.relocates
-
 -- the lines for a call whose token has this number
 abbrev pub first_lines : ℕ → GroupContent → Instruction → Op → List Instruction
 first_lines token group inst (Call callee types) =
-    statepoint_line 0 group.has_null (group_values group) callee types inst.ty inst.operands inst.bundle
+    statepoint_line 0 group.has_null (group_list group) callee types inst.ty inst.operands inst.bundle
     ∷ (result_lines token inst.ty inst.result ++ relocate_lines token 0 (first_rank group.has_null) group.relocates)
 first_lines token group inst _ = []
 

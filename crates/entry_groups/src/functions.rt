@@ -8,29 +8,27 @@ ghost use Rattle.entry_groups.specs.Entry.{waits_at_entry};
 
 use crate::blocks::all_blocks;
 use crate::numbers::behind_group;
-use crate::waits::{may_wait_at_entry, waits_at_entry};
+use crate::waits::waits_at_entry;
 use ir_ast::{Block, Func};
-use ir_cfg::Cfg;
 use sp_ids::Memory;
 use statepoint_insert::{Group, Marked};
 use std::alloc::Global;
 
 /// The function in SSA form again: each use takes the version of its value that stands there, phis named `%sp.mN` are inserted at
-/// the front of the blocks where versions meet, and groups stand in place of calls (Garbage Collection Safepoints in LLVM,
-/// "RewriteStatepointsForGC"). Each line has number 0. Where memory is wanted the function is gone.
+/// the front of the blocks where versions meet, none of them with no operand but itself and one other value, and groups stand in
+/// place of calls (Garbage Collection Safepoints in LLVM, "RewriteStatepointsForGC"). Each line has number 0. Where memory is wanted
+/// the function is gone.
 ///
-/// A function that waits at its first line alone, as at its poll, and in which no versions meet keeps its lines.
+/// A function that waits at its first line alone, as at its poll, keeps its lines where no way comes back to a block: then no versions
+/// meet.
 pub fn rebuild(alloc: Global, marked: Marked) -> Result<Func, Memory>
     ensures content { IfOk result (λ func. func.content ≡ rewritten marked.before marked.table) }
     ensures zeros { IfOk result (λ func. func.lines ≡ zeros_of func.content) }
 {
-    if may_wait_at_entry(marked.func(), marked.groups()) {
-        let cfg = Cfg::of(alloc, marked.func())?;
-        if waits_at_entry(marked.func(), marked.groups(), &cfg) {
-            return with_entry_group(alloc, marked);
-        }
+    if waits_at_entry(marked.func(), marked.groups()) {
+        return with_entry_group(alloc, marked);
     }
-    ssa_rebuild::rebuild(alloc, marked)
+    thin_phis::rebuild(alloc, marked)
 }
 
 fn with_entry_group(alloc: Global, marked: Marked) -> Result<Func, Memory>

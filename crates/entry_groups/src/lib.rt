@@ -1,4 +1,4 @@
-//! The function in SSA form again, as `ssa_rebuild` makes it, with a short way for one that waits at its first line alone.
+//! The function in SSA form again, as `thin_phis` makes it, with a short way for one that waits at its first line alone.
 #![tactic(auto)]
 
 mod blocks;

@@ -2,7 +2,8 @@
 
 ghost use Rattle.std.specs.Prelude.{◌≡◌, ◌≤◌, ◌++◌, [], true, false, drop, length, map, slice_index, take, IfOk, OnOk};
 ghost use Rattle.ir_ast.specs.Ops.{is_terminator};
-ghost use Rattle.entry_groups.specs.Entry.{put, put_line, group_values, first_lines, entry_lines, goes_on};
+ghost use Rattle.entry_groups.specs.Entry.{put, put_line, first_lines, entry_lines, goes_on};
+ghost use Rattle.ssa_rebuild.specs.Rows.{group_list};
 
 use ir_ast::{Inst, Op, Operand, Rest, Ty};
 use smallvec::SmallVec;
@@ -210,7 +211,7 @@ fn no_counts() -> Counts
 }
 
 fn values(alloc: Global, group: &Group) -> Result<Vec<u32>, Memory>
-    ensures { IfOk result (λ values. values.items ≡ group_values group.now) }
+    ensures { IfOk result (λ values. values.items ≡ group_list group.now) }
 {
     let relocates = group.relocates();
     let mut values = Vec::with_capacity(alloc, relocates.len())?;

@@ -1,50 +1,22 @@
-//! Whether a function waits at its first line alone, and no versions meet in it.
+//! Whether a function waits at its first line alone, and its edges lead forward.
 
-ghost use Rattle.std.specs.Prelude.{◌≡◌, ◌<◌, ◌&&◌, ◌||◌, true, length, nat_lt};
+ghost use Rattle.std.specs.Prelude.{◌≡◌, ◌<◌, [], true, length, map, nat_lt, slice_index_or};
 ghost use Rattle.std.specs.List.{list_all};
 ghost use Rattle.ir_ast.specs.Callees.{is_leaf};
-ghost use Rattle.ir_cfg.specs.Graphs.{graph_of};
+ghost use Rattle.ir_ast.specs.Edges.{targets};
 ghost use Rattle.rewriting_forms.specs.Numbered.{is_call};
-ghost use Rattle.entry_groups.specs.Entry.{has_no_parts, is_bare, begins_bare, enters_bare, is_one_below, relocates_none, meets_nowhere, waits_at_entry, are_few};
+ghost use Rattle.entry_groups.specs.Entry.{has_no_parts, is_bare, begins_bare, enters_bare, is_one_below, leads_forward, leads_on, waits_at_entry};
 
 use ir_ast::{Block, Callee, Func, Inst, Op};
-use ir_cfg::Cfg;
 use sp_ids::BlockId;
 use statepoint_insert::{Group, Relocate};
 
-/// Whether it is worth a look at the edges: there is one group, and it keeps nothing or there are fewer edges than blocks.
-pub(crate) fn may_wait_at_entry(func: &Func, groups: &[Group]) -> bool {
-    groups.len() == 1 && (relocates_none(groups) || has_few_edges(func.blocks()))
-}
-
-fn has_few_edges(blocks: &[Block]) -> bool {
-    let mut edges = 0_usize;
-    for block in blocks {
-        edges = edges.saturating_add(edge_count(block.insts()));
-    }
-    edges < blocks.len()
-}
-
-fn edge_count(insts: &[Inst]) -> usize {
-    match insts.last() {
-        None => 0,
-        Some(inst) => inst.labels().len(),
-    }
-}
-
-/// Whether the only group is that of the first line, it relocates arguments alone, and each of these keeps one version behind it.
-pub(crate) fn waits_at_entry(func: &Func, groups: &[Group], cfg: &Cfg) -> bool
-    requires { cfg.now ≡ graph_of func.now.content }
+/// Whether the only group is that of the first line, it relocates arguments alone, and every edge leads to a later block.
+pub(crate) fn waits_at_entry(func: &Func, groups: &[Group]) -> bool
     ensures { result ≡ true → waits_at_entry func.now.content groups.now ≡ true }
 {
-    enters_bare(func.blocks()) && keep_one_version(func, groups, cfg)
-}
-
-fn keep_one_version(func: &Func, groups: &[Group], cfg: &Cfg) -> bool
-    requires { cfg.now ≡ graph_of func.now.content }
-    ensures { result ≡ true → (is_one_below (length func.now.content.args) groups.now && (relocates_none groups.now || meets_nowhere func.now.content)) ≡ true }
-{
-    is_one_below(func.args().len(), groups) && (relocates_none(groups) || meets_nowhere(func, cfg))
+    enters_bare(func.blocks())
+        && (is_one_below(func.args().len(), groups) && leads_forward(func.blocks()))
 }
 
 fn enters_bare(blocks: &[Block]) -> bool
@@ -142,32 +114,39 @@ fn are_below(count: usize, relocates: &[Relocate]) -> bool
         .all(|relocate| (relocate.value.0 as usize) < count)
 }
 
-fn relocates_none(groups: &[Group]) -> bool
-    ensures { result ≡ relocates_none groups.now }
+fn leads_forward(blocks: &[Block]) -> bool
+    ensures { result ≡ true → leads_forward blocks.now ≡ true }
 {
-    groups.iter().all(|group| group.relocates().is_empty())
-}
-
-// No two edges lead into one block.
-fn meets_nowhere(func: &Func, cfg: &Cfg) -> bool
-    requires { cfg.now ≡ graph_of func.now.content }
-    ensures { result ≡ true → meets_nowhere func.now.content ≡ true }
-{
-    for block in 0..func.blocks().len() {
-        if !is_entered_once(cfg, block as u32) {
+    for number in 0..blocks.len() {
+        if !leads_on(blocks, number) {
             return false;
         }
     }
     true
 }
 
-// Whether at most one edge leads into a block.
-fn is_entered_once(cfg: &Cfg, block: u32) -> bool
-    requires { block < length cfg.now }
-    ensures { result ≡ are_few cfg.now block }
+fn leads_on(blocks: &[Block], number: usize) -> bool
+    requires { number < length blocks.now }
+    ensures { result ≡ leads_on blocks.now number }
 {
-    match cfg.preds(BlockId(block)) {
-        [] | [_] => true,
-        [_, _, ..] => false,
+    edges_at(blocks, number)
+        .iter()
+        .all(|label| number < label.0 as usize)
+}
+
+fn edges_at(blocks: &[Block], number: usize) -> &[BlockId]
+    requires { number < length blocks.now }
+    ensures { result.now ≡ slice_index_or (map targets blocks.now) number [] }
+{
+    edges_of(&blocks[number])
+}
+
+// The labels of the terminator.
+fn edges_of(block: &Block) -> &[BlockId]
+    ensures { result.now ≡ targets block.now }
+{
+    match block.insts().last() {
+        Some(inst) => inst.labels(),
+        None => &[],
     }
 }

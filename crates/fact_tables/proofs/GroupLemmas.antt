@@ -2,7 +2,7 @@
 use Rattle.std.proofs.Common.{◌≡◌, ◌∙◌, ◌≤◌, ◌<◌, inl, inr, ℕ, zero, suc, ◌+◌, ◌-◌, cond, Bool, true, false, List, [], ◌∷◌, ◌++◌, Option, Some, None, refl, ap, sym, subst, length, arith, add-one, get_or, take, drop, length-drop, take_all, Result, Ok, Err, IfOk}
 use Rattle.std.specs.Prelude.{◌==◌, ◌&&◌, ◌||◌, nat_eq, slice_get}
 use Rattle.std.specs.List.{list_any}
-use Rattle.std.proofs.lemmas.Bool.{cases_Bool, eq-eqb, eqb-true}
+use Rattle.std.proofs.lemmas.Bool.{cases_Bool, eq-eqb, eqb-true, or_cases, or_left}
 use Rattle.std.proofs.lemmas.List.{get_or-drop, get_or-take}
 use Rattle.std.proofs.lemmas.List.Sums.{prefix_len_is, prefix_len-le-length}
 use Rattle.std.proofs.lemmas.List.Folds.{list_any-append, list_any_more, length-prefix_len}
@@ -12,16 +12,16 @@ use Rattle.object_meaning.specs.Lines.{Line}
 use Rattle.object_meaning.specs.Frames.{is_member, group_length, index_in}
 use Rattle.pair_facts.specs.Lines.{line_in, no_line, head_at, head_here, group_in, is_relocate}
 use Rattle.pair_facts.specs.Pairs.{relocates_base, base_index, has_base}
-use Rattle.pair_facts.proofs.BoolLemmas.{or_false, or_first, same_tests, either}
 use Rattle.std.specs.Option.{option_map_or}
 use Rattle.fact_tables.specs.Notes.{head_before, told}
 use Rattle.fact_tables.specs.declared.groups.Group.{Group}
 use Rattle.fact_tables.specs.declared.groups.Kept.{Kept}
 use Rattle.fact_tables.specs.Groups.{IsKept, Keeps, KeepsBoth, relocates_base_of, keeps_value, keeps_value_of, IsGroupOf, is_based, is_based_by}
+use Rattle.list_laws.proofs.Booleans.{or_false, same_tests}
 
 -- ---- the statepoint of a line's group
 
-head_next : (lines : List Line) (place : ℕ) → head_here (line_in lines place).inst.op place (head_before lines place) ≡ head_at lines place
+pub head_next : (lines : List Line) (place : ℕ) → head_here (line_in lines place).inst.op place (head_before lines place) ≡ head_at lines place
 head_next lines zero = refl
 head_next lines (suc place) = refl
 
@@ -31,13 +31,6 @@ pub head_kept : (lines : List Line) (place : ℕ) → is_statepoint (line_in lin
 head_kept lines place apart member =
     sym (ap (λ b. cond {A = Option ℕ} b (Some place) (cond (is_member (line_in lines place).inst.op) (head_before lines place) None)) apart
     ∙ ap (λ b. cond {A = Option ℕ} b (head_before lines place) None) member) ∙ head_next lines place
-
-pub head_none : (lines : List Line) (place : ℕ) → is_statepoint (line_in lines place).inst.op ≡ false → is_member (line_in lines place).inst.op ≡ false
-    → head_at lines place ≡ None
-head_none lines place apart outside =
-    sym (head_next lines place)
-    ∙ ap (λ b. cond {A = Option ℕ} b (Some place) (cond (is_member (line_in lines place).inst.op) (head_before lines place) None)) apart
-    ∙ ap (λ b. cond {A = Option ℕ} b (head_before lines place) None) outside
 
 -- ---- where a group ends
 
@@ -70,8 +63,8 @@ inserted keys value entry = elim (cases_Bool (list_any (nat_eq value) keys)) [
 
     stays : list_any (nat_eq value) keys ≡ true → list_any (nat_eq entry) keys ≡ (list_any (nat_eq entry) keys || (value == entry))
     stays old = same_tests (list_any (nat_eq entry) keys) (list_any (nat_eq entry) keys || (value == entry))
-        (or_first (list_any (nat_eq entry) keys) (value == entry))
-        (λ h. elim (either (list_any (nat_eq entry) keys) (value == entry) h) [
+        (or_left (list_any (nat_eq entry) keys) (value == entry))
+        (λ h. elim (or_cases (list_any (nat_eq entry) keys) (value == entry) h) [
           | inl there ↦ there
           | inr same ↦ subst (λ (n : ℕ). list_any (nat_eq n) keys ≡ true) (eqb-true value entry same) old
         ])
@@ -186,10 +179,6 @@ group_inside lines head place low high =
     omega (arith, prefix_len-le-length (λ (line : Line). is_member line.inst.op) (drop (suc head) lines), length-drop (suc head) lines)
 
 -- ---- the group of a line, and whether it keeps the line's base
-
-pub ok_map : {T E : Type 0} (r : Result T E) (P Q : T → Type 0) → ((x : T) → P x → Q x) → IfOk r P → IfOk r Q
-ok_map (Ok x) P Q each h = each x h
-ok_map (Err e) P Q each h = h
 
 pub based_here : (lines : List Line) (place : ℕ) (inst : Instruction) (found : Option Group) → inst ≡ (line_in lines place).inst
     → IsGroupOf lines (head_at lines place) found → is_based_by inst found ≡ is_based lines place

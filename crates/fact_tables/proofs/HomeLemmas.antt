@@ -11,7 +11,8 @@ use Rattle.object_meaning.specs.Lines.{Line, after_all, registers_of, insts_in, 
 use Rattle.pair_facts.specs.Lines.{lines_at, line_in, no_line}
 use Rattle.fact_tables.specs.declared.homes.Home.{Home}
 use Rattle.fact_tables.specs.Homes.{GivesAt, home_at, home_in, register_at, IsBefore, KnowsHomes}
-use Rattle.fact_tables.proofs.LineLemmas.{plain_at, plain_none, after_all_more, registers_next, insts_are}
+use Rattle.fact_tables.proofs.LineLemmas.{plain_none, after_all_more, registers_next, insts_are}
+use Rattle.object_meaning.proofs.LineLaws.{plain_at}
 
 -- ---- what a line gives
 
@@ -34,7 +35,7 @@ register_more func block place inst at some =
     ap (λ (n : ℕ). register_at func block n) (add-one place) ∙ after_all_more (slice_index (registers_of func) block) (insts_in func block) place inst at
     ∙ ap (λ b. cond b (register_at func block place + 1) (register_at func block place)) some
 
-before_cases : (block place until_block until : ℕ) → IsBefore block place until_block (until + 1)
+pub before_cases : (block place until_block until : ℕ) → IsBefore block place until_block (until + 1)
     → IsBefore block place until_block until ⊎ ((block ≡ until_block) × (place ≡ until))
 before_cases block place until_block until (inl earlier) = inl (inl earlier)
 before_cases block place until_block until (inr (same, below)) = elim (cases_lt place until) [

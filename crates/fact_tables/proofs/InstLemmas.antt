@@ -8,8 +8,9 @@ use Rattle.ir_ast.specs.Blocks.{BasicBlock}
 use Rattle.ir_ast.specs.Funcs.{Function, instructions_of}
 use Rattle.object_meaning.specs.Lines.{insts_in, registers_of}
 use Rattle.pair_facts.specs.Lines.{lines_at, line_in}
-use Rattle.fact_tables.proofs.LineLemmas.{insts_are, length-plain_lines}
+use Rattle.fact_tables.proofs.LineLemmas.{insts_are}
 use Rattle.fact_tables.proofs.NoteLemmas.{inst_at}
+use Rattle.object_meaning.proofs.LineLaws.{plain_count}
 
 pub insts_within : (blocks : List BasicBlock) (number : ℕ) (block : BasicBlock) → slice_get blocks number ≡ Some block → length block.insts ≤ length (instructions_of blocks)
 insts_within [] number block at = absurd (none-some block at)
@@ -19,7 +20,7 @@ insts_within (first ∷ blocks) zero block at =
 insts_within (first ∷ blocks) (suc number) block at = omega (arith, insts_within blocks number block at, length-append first.insts (instructions_of blocks))
 
 pub count_lines : (func : Function) (number : ℕ) (block : BasicBlock) → slice_get func.blocks number ≡ Some block → length (lines_at func number) ≡ length block.insts
-count_lines func number block at = length-plain_lines (slice_index (registers_of func) number) (insts_in func number) ∙ ap length (insts_are func number block at)
+count_lines func number block at = plain_count (slice_index (registers_of func) number) (insts_in func number) ∙ ap length (insts_are func number block at)
 
 -- a block that was read
 pub block_read : (func : Function) (blocks : List BasicBlock) (number : ℕ) (block : BasicBlock) → blocks ≡ func.blocks → number < length func.blocks

@@ -10,17 +10,6 @@ use Rattle.object_meaning.specs.Lines.{numbered, following, after_all, first_reg
 use Rattle.object_meaning.specs.TargetRuns.{plain_lines}
 use Rattle.pair_facts.specs.Lines.{line_in, no_line}
 
-pub length-plain_lines : (next : ℕ) (insts : List Instruction) → length (plain_lines next insts) ≡ length insts
-length-plain_lines next [] = refl
-length-plain_lines next (inst ∷ insts) = ap suc (length-plain_lines (following next inst) insts)
-
--- the line of an instruction
-pub plain_at : (next : ℕ) (insts : List Instruction) (place : ℕ) (inst : Instruction) → slice_get insts place ≡ Some inst
-    → slice_get (plain_lines next insts) place ≡ Some (numbered (after_all next (take place insts)) inst)
-plain_at next [] place inst at = absurd (none-some inst at)
-plain_at next (first ∷ insts) zero inst at = ap (λ (i : Instruction). Some (numbered next i)) (same_Some first inst at)
-plain_at next (first ∷ insts) (suc place) inst at = plain_at (following next first) insts place inst at
-
 pub plain_none : (next : ℕ) (insts : List Instruction) (place : ℕ) → slice_get insts place ≡ None → line_in (plain_lines next insts) place ≡ no_line
 plain_none next [] zero none = refl
 plain_none next [] (suc place) none = refl

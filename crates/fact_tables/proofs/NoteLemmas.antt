@@ -16,7 +16,8 @@ use Rattle.object_meaning.specs.Jumps.{phi_count}
 use Rattle.pair_facts.specs.Lines.{lines_at, line_in, no_line, head_at, head_here}
 use Rattle.pair_facts.specs.Segments.{start_at}
 use Rattle.fact_tables.specs.Notes.{told, head_before, AreNoted}
-use Rattle.fact_tables.proofs.LineLemmas.{plain_at}
+use Rattle.fact_tables.proofs.GroupLemmas.{head_next}
+use Rattle.object_meaning.proofs.LineLaws.{plain_at}
 
 -- the instruction of a line
 pub inst_at : (func : Function) (block place : ℕ) (inst : Instruction) → slice_get (insts_in func block) place ≡ Some inst
@@ -62,10 +63,6 @@ prefix_is (inst ∷ insts) (suc count) within phis stops =
     ∙ omega (arith, prefix_is insts count (omega arith) (λ k other below at. phis (suc k) other (omega arith) at) stops)
 
 -- ---- an instruction more
-
-head_next : (lines : List Line) (place : ℕ) → head_here (line_in lines place).inst.op place (head_before lines place) ≡ head_at lines place
-head_next lines zero = refl
-head_next lines (suc place) = refl
 
 pub noted_more : (func : Function) (block place start next : ℕ) (head found : Option ℕ) (starts starts_next : List ℕ) (heads heads_next : List (Option ℕ)) (inst : Instruction)
     → slice_get (insts_in func block) place ≡ Some inst

@@ -14,18 +14,11 @@ use Rattle.ir_ast.specs.declared.ops.Operand.TheVariants.{Null}
 use Rattle.ir_ast.specs.Insts.{Instruction}
 use Rattle.object_meaning.specs.Lines.{Line}
 use Rattle.pair_facts.specs.Lines.{line_in, operand_at}
-use Rattle.pair_facts.proofs.BoolLemmas.{same_tests}
 use Rattle.fact_tables.specs.Phis.{operand_beside, KnowsEntries, AreEntries, ArePhis}
+use Rattle.list_laws.proofs.Booleans.{same_tests}
+use Rattle.list_laws.proofs.Places.{drop_whole, drop_nil}
 
 -- ---- a label more
-
-drop_nil : {A : Type 0} (n : ℕ) → drop {A = A} n [] ≡ []
-drop_nil zero = refl
-drop_nil (suc n) = refl
-
-pub drop_whole : {A : Type 0} (xs : List A) → drop (length xs) xs ≡ []
-drop_whole [] = refl
-drop_whole (x ∷ xs) = drop_whole xs
 
 beside_next : (labels : List BlockId) (operands : List Operand) (place from : ℕ) (d : BlockId) → place < length labels
     → operand_beside from (drop place labels) (drop place operands)

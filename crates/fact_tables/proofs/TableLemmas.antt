@@ -2,7 +2,7 @@
 use Rattle.std.proofs.Common.{◌≡◌, ◌∙◌, ◌⊎◌, inl, inr, ℕ, zero, suc, ◌+◌, ◌-◌, ◌<◌, ◌≤◌, cond, Bool, true, false, List, [], ◌∷◌, ◌++◌, Option, Some, None, refl, ap, sym, subst, slice_get, length, arith, get_or, nat_lt}
 use Rattle.std.specs.Prelude.{◌==◌, ◌&&◌, nat_le, slice_index}
 use Rattle.std.specs.Option.{option_map_or}
-use Rattle.std.proofs.lemmas.Bool.{false≢true, cases_lt, cases_Bool, eqb-true, eq-eqb, ltb-true, lt-ltb, leb-true, le-leb}
+use Rattle.std.proofs.lemmas.Bool.{false≢true, cases_lt, cases_Bool, eqb-true, eq-eqb, ltb-true, lt-ltb, leb-true, le-leb, and_parts, and_from}
 use Rattle.std.proofs.lemmas.List.{length_push}
 use Rattle.std.proofs.lemmas.Option.{none-some, same_Some, slice_get_read, slice_get-get_or}
 use Rattle.ir_ast.specs.Insts.{Instruction}
@@ -11,7 +11,6 @@ use Rattle.ir_ast.specs.Funcs.{Function}
 use Rattle.object_meaning.specs.Lines.{Line, registers_of, insts_in}
 use Rattle.pair_facts.specs.Lines.{lines_at, line_in, line_before, no_line, head_at, gives}
 use Rattle.pair_facts.specs.Segments.{start_at}
-use Rattle.pair_facts.proofs.BoolLemmas.{both, joined, same_tests}
 use Rattle.pair_facts.proofs.GroupLaws.{gives_is, given_is}
 use Rattle.fact_tables.specs.declared.homes.Home.{Home}
 use Rattle.fact_tables.specs.declared.notes.Notes.{Notes}
@@ -22,11 +21,9 @@ use Rattle.fact_tables.specs.Groups.{is_based}
 use Rattle.fact_tables.specs.Tables.{AreNotes, AreTables, first_of, IsWithin, FindsWithin, place_between}
 use Rattle.fact_tables.proofs.LineLemmas.{plain_none}
 use Rattle.fact_tables.proofs.NoteLemmas.{told_at, length-told}
+use Rattle.list_laws.proofs.Booleans.{same_tests}
 
 -- ---- notes
-
-pub notes_none : (func : Function) → AreNotes func 0 []
-notes_none func = record { whole = refl; each = λ block one at. absurd (none-some one at) }
 
 pub notes_pushed : (func : Function) (block : ℕ) (notes : List Notes) (one : Notes) → AreNotes func block notes → IsNotes (lines_at func block) one
     → AreNotes func (block + 1) (notes ++ one ∷ [])
@@ -80,7 +77,7 @@ based_read lines one place found is within read =
 
 -- ---- homes
 
-gives_inside : (func : Function) (block place value : ℕ) → GivesAt func block place value → block < length func.blocks
+pub gives_inside : (func : Function) (block place value : ℕ) → GivesAt func block place value → block < length func.blocks
 gives_inside func block place value gives = elim (cases_lt block (length func.blocks)) [
   | inl inside ↦ inside
   | inr past ↦
@@ -114,8 +111,8 @@ pub finds_within : (func : Function) (homes : List (Option Home)) (block place v
     → FindsWithin (lines_at func block) place value (place_between home block first place)
 finds_within func homes block place value first home knows found is = elim (cases_Bool test) [
   | inl holds ↦
-      (let outer = both (home.block == block && nat_le first home.place) (nat_lt home.place place) holds in
-      let inner = both (home.block == block) (nat_le first home.place) outer.0 in
+      (let outer = and_parts (home.block == block && nat_le first home.place) (nat_lt home.place place) holds in
+      let inner = and_parts (home.block == block) (nat_le first home.place) outer.0 in
       let gives : GivesAt func block home.place value = subst (λ (b : ℕ). GivesAt func b home.place value) (eqb-true home.block block inner.0) (knows.sound value home found) in
       let low : first ≤ home.place = leb-true first home.place inner.1 in
       let here : IsWithin (lines_at func block) place value home.place = record {
@@ -130,8 +127,8 @@ finds_within func homes block place value first home knows found is = elim (case
       let same = same_Some home (home_at block at) (sym found ∙ home_found func homes block at value knows gives) in
       let own : home.block ≡ block = ap (λ (h : Home). h.block) same in
       let place_is : home.place ≡ at = ap (λ (h : Home). h.place) same in
-      let found_too : test ≡ true = joined (home.block == block && nat_le first home.place) (nat_lt home.place place)
-      (joined (home.block == block) (nat_le first home.place) (eq-eqb home.block block own) (le-leb first home.place (omega (arith, is, low, place_is))))
+      let found_too : test ≡ true = and_from (home.block == block && nat_le first home.place) (nat_lt home.place place)
+      (and_from (home.block == block) (nat_le first home.place) (eq-eqb home.block block own) (le-leb first home.place (omega (arith, is, low, place_is))))
       (lt-ltb home.place place (omega (arith, high, place_is))) in
       false≢true (sym fails ∙ found_too))
 ]
@@ -151,9 +148,9 @@ home_gives func homes block place value home knows found =
     same_tests (gives (line_in (lines_at func block) place) value) (home.block == block && home.place == place)
     (λ given.
     let same = same_Some home (home_at block place) (sym found ∙ home_found func homes block place value knows (given_is (line_in (lines_at func block) place) value given)) in
-    joined (home.block == block) (home.place == place) (eq-eqb home.block block (ap (λ (h : Home). h.block) same)) (eq-eqb home.place place (ap (λ (h : Home). h.place) same)))
+    and_from (home.block == block) (home.place == place) (eq-eqb home.block block (ap (λ (h : Home). h.block) same)) (eq-eqb home.place place (ap (λ (h : Home). h.place) same)))
     (λ here.
-    let two = both (home.block == block) (home.place == place) here in
+    let two = and_parts (home.block == block) (home.place == place) here in
     let own : GivesAt func block home.place value = subst (λ (b : ℕ). GivesAt func b home.place value) (eqb-true home.block block two.0) (knows.sound value home found) in
     gives_is (line_in (lines_at func block) place) value (subst (λ (k : ℕ). GivesAt func block k value) (eqb-true home.place place two.1) own))
 

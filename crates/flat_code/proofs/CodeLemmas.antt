@@ -13,6 +13,7 @@ use Rattle.flat_code.specs.declared.lines.Segment.{Segment}
 use Rattle.flat_code.specs.Spots.{lines_at}
 use Rattle.flat_code.specs.Segments.{IsExit, IsSegment, Leads, first_spot, AreChained, StartsAt, IsFunction}
 use Rattle.flat_code.specs.Codes.{FlatModule, defined_at, function_at, segment_at, block_at, front_lines, Leaves, Fits, AreDecoded, AreFunctions}
+use Rattle.list_laws.proofs.Numbers.{one_more}
 
 -- what a segment of a chain is, and what it leads to
 chained_is : (layouts : List ObjectLayout) (defined : Option IrFunction) (segments : List Segment) (last : Option Spot) (place : ℕ) (segment : Segment)
@@ -50,9 +51,6 @@ leads_to code func place segment (Some exit) (Some next) is block leads =
       operands_are = leads.operands_are;
       exit_is = subst (λ (b : ℕ). IsExit (defined_at code func) b leads.line.inst exit) block leads.exit_is;
     }
-
-one_more : (n : ℕ) → suc n ≡ n + 1
-one_more n = omega arith
 
 pub fits_at : (code : FlatModule) (func place : ℕ) (segment : Segment) → IsFunction code.content.layouts (defined_at code func) (function_at code func)
     → segment_at code func place ≡ Some segment → Fits code func place segment

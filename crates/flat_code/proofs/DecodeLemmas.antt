@@ -86,12 +86,6 @@ starts_push (first ∷ segments) segment = ap (λ (rest : List Spot). first.star
 pub front_same : {A : Type 0} (xs ys : List A) → ys ≡ xs → IsFront xs ys
 front_same xs ys is = record { more = []; is = is ∙ sym (append-nil xs) }
 
-pub front_by : {A : Type 0} (xs ys zs : List A) → IsFront xs ys → IsFront ys zs → IsFront xs zs
-front_by xs ys zs one other = record {
-  more = one.more ++ other.more;
-  is = other.is ∙ ap (λ front. front ++ other.more) one.is ∙ append_assoc xs one.more other.more;
-}
-
 pub front_get : {A : Type 0} (xs ys : List A) (place : ℕ) (x : A) → IsFront xs ys → slice_get xs place ≡ Some x → slice_get ys place ≡ Some x
 front_get {A = A} xs ys place x front is = subst (λ (all : List A). slice_get all place ≡ Some x) (sym front.is) (within xs front.more place is)
   where

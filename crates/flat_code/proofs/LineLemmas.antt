@@ -30,8 +30,3 @@ pub at_behind : (defined : Option Function) (spot : Spot) (inst : Instruction) �
     → lines_at defined spot ≡ numbered spot.next inst ∷ lines_at defined (passed_spot spot inst)
 at_behind defined spot inst due there =
     let cut = drop_at (insts_at defined spot.block) spot.at inst there in rw (due, cut) refl
-
-pub at_line_end : (defined : Option Function) (spot : Spot) → spot.due ≡ Next
-    → slice_get (insts_at defined spot.block) spot.at ≡ None → lines_at defined spot ≡ []
-at_line_end defined spot due none =
-    let cut = drop_end (insts_at defined spot.block) spot.at none in rw (due, cut) refl

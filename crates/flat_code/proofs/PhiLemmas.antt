@@ -10,6 +10,7 @@ use Rattle.object_meaning.proofs.ListLemmas.{known}
 use Rattle.flat_code.specs.declared.lines.Copied.{Copied}
 use Rattle.flat_code.specs.Edges.{copy_of, phis_in, copies_from}
 use Rattle.flat_code.specs.Spots.{phis_of}
+use Rattle.list_laws.proofs.Numbers.{after_one}
 
 -- no poll stands before a phi
 phi_line : (block next : ℕ) (inst : Instruction) (insts : List Instruction) → is_phi inst.op ≡ true
@@ -24,9 +25,6 @@ other_line block next inst insts e =
       | false ↦ rw e refl
     ]
 
-one_more : (n : ℕ) → 1 + n ≡ suc n
-one_more n = omega arith
-
 -- the lines behind the phis
 pub phi_rest : (block next : ℕ) (insts : List Instruction)
     → drop (phi_count (lines_from block next insts)) (lines_from block next insts)
@@ -34,8 +32,8 @@ pub phi_rest : (block next : ℕ) (insts : List Instruction)
 phi_rest block next [] = refl
 phi_rest block next (inst ∷ insts) = elim (known (is_phi inst.op)) [
   | inl is ↦
-      let lines = one_more (phi_count (lines_from block (following next inst) insts)) in
-      let phis = one_more (phis_of insts) in
+      let lines = after_one (phi_count (lines_from block (following next inst) insts)) in
+      let phis = after_one (phis_of insts) in
       rw (phi_line block next inst insts is, is, lines, phis) (phi_rest block (following next inst) insts)
   | inr other ↦ rw (other_line block next inst insts other, other) refl
 ]
@@ -46,8 +44,8 @@ pub phi_copies : (from block next : ℕ) (insts : List Instruction)
 phi_copies from block next [] = refl
 phi_copies from block next (inst ∷ insts) = elim (known (is_phi inst.op)) [
   | inl is ↦
-      let lines = one_more (phi_count (lines_from block (following next inst) insts)) in
-      let phis = one_more (phis_of insts) in
+      let lines = after_one (phi_count (lines_from block (following next inst) insts)) in
+      let phis = after_one (phis_of insts) in
       rw (phi_line block next inst insts is, is, lines, phis)
       (ap (λ (rest : List Copied). copy_of from (numbered next inst) ∷ rest) (phi_copies from block (following next inst) insts))
   | inr other ↦ rw (other_line block next inst insts other, other) refl

@@ -34,6 +34,7 @@ use Rattle.object_meaning.proofs.StepLaws.{step_is}
 use Rattle.flat_code.specs.Actions.{acted}
 use Rattle.flat_code.specs.Flats.{is_straight, comparison, action_of, width_at, operand_at, flat_line, flat_lines, AreInner, Held, computes, loads, stores, acts_on, line_done, and_then, lines_done}
 use Rattle.flat_code.specs.Straight.{held_of, stood, held_effect, Passes, IsAlike, TrapsAt}
+use Rattle.object_meaning.proofs.SimulationLaws.{goes_on as goes_add}
 
 -- ---- what an action computes
 
@@ -43,7 +44,7 @@ compared layouts pred (Integer width) a b c = refl
 compared layouts pred Ptr a b c = refl
 compared layouts pred Token a b c = refl
 
-reduced : (from times bytes rest m : ℕ) → (from + (times * (bytes % m) + rest)) % m ≡ (from + (times * bytes + rest)) % m
+pub reduced : (from times bytes rest m : ℕ) → (from + (times * (bytes % m) + rest)) % m ≡ (from + (times * bytes + rest)) % m
 reduced from times bytes rest m =
     sym (add-mod-mod from (times * (bytes % m) + rest) m)
     ∙ ap (λ (n : ℕ). (from + n) % m) (sym (mod-add-mod (times * (bytes % m)) m rest)
@@ -155,10 +156,6 @@ step_phi : (setting : Setting) (state : State) (line : Line) (rest : List Line) 
 step_phi setting state line rest there phi = step_is setting state line rest there ∙ phi_acts setting state line rest line.inst.op phi
 
 -- ---- runs
-
-pub goes_add : {E A : Type 0} (step : A → Next E A) (one other : ℕ) (next : Next E A) → goes step (one + other) next ≡ goes step other (goes step one next)
-goes_add step zero other next = let e : 0 + other ≡ other = omega arith in ap (λ (n : ℕ). goes step n next) e
-goes_add step (suc one) other next = let e : suc one + other ≡ suc (one + other) = omega arith in ap (λ (n : ℕ). goes step n next) e ∙ goes_add step one other (advance step next)
 
 pub reaches_by : {E A : Type 0} (step : A → Next E A) (start now next : A) → Reaches {E = E} step start now → Reaches {E = E} step now next → Reaches {E = E} step start next
 reaches_by step start now next one other = record {

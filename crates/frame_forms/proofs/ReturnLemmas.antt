@@ -9,6 +9,7 @@ use Rattle.ir_ast.specs.Blocks.{EndsAtTerminator}
 use Rattle.object_meaning.specs.Frames.{is_member}
 use Rattle.frame_forms.specs.Groups.{group_size}
 use Rattle.frame_forms.specs.CodeAddresses.{returns_from}
+use Rattle.std.proofs.lemmas.List.Sums.{prefix_len-le-length}
 
 no_member : (op : Op) → is_terminator op ≡ true → is_member op ≡ false
 no_member GcResult ends = cc
@@ -54,14 +55,6 @@ pub length-returns_from : (place : ℕ) (insts : List Instruction) → length (r
 length-returns_from place [] = refl
 length-returns_from place (inst ∷ insts) = ap suc (length-returns_from (place + 1) insts)
 
-prefix_within : {A : Type 0} (p : A → Bool) (xs : List A) → prefix_len p xs ≤ length xs
-prefix_within p [] = omega arith
-prefix_within p (x ∷ xs) = counted (p x) (prefix_len p xs) (length xs) (prefix_within p xs)
-  where
-    counted : (b : Bool) (n m : ℕ) → n ≤ m → cond b (1 + n) 0 ≤ suc m
-    counted true n m within = omega arith
-    counted false n m within = omega arith
-
 pub group_within : (op : Op) (rest : List Instruction) → group_size op rest ≤ length rest
-group_within (Statepoint id callee types) rest = prefix_within (λ (inst : Instruction). is_member inst.op) rest
+group_within (Statepoint id callee types) rest = prefix_len-le-length (λ (inst : Instruction). is_member inst.op) rest
 group_within _ rest = omega arith

@@ -31,18 +31,6 @@ layouts_kept returns more (entry ∷ entries) within =
     ∙ ap (λ rest. layout_in returns entry ∷ rest)
     (layouts_kept returns more entries (λ k d below. within (suc k) d (omega arith)))
 
-pub within_kept : (returns more : List ℕ) (entries : List Entry) → AreWithin returns entries → AreWithin (returns ++ more) entries
-within_kept returns more entries within = λ k d below.
-    let known = within k d below in
-    let grows : length (returns ++ more) ≡ length returns + length more = length-append returns more in
-    omega arith
-
-pub within_pushed : (returns : List ℕ) (entries : List Entry) (entry : Entry) → AreWithin returns entries → entry.first + entry.count ≤ length returns
-    → AreWithin returns (entries ++ entry ∷ [])
-within_pushed returns entries entry within holds =
-    let P : Entry → Type 0 = λ one. one.first + one.count ≤ length returns in
-    All-append P entries (entry ∷ []) within (All-cons P entry [] holds (All-nil P))
-
 -- what an entry behind the others speaks of
 pub returns_pushed : (returns more : List ℕ) (entry : Entry) → entry.first ≡ length returns → entry.count ≡ length more
     → returns_in (returns ++ more) entry ≡ more

@@ -1,7 +1,7 @@
 -- A test for a terminator at the end of a block, and nowhere else.
 use Rattle.std.proofs.Common.{◌≡◌, Bool, true, false, not, ◌&&◌, List, [], ◌∷◌, ◌++◌, refl, ap}
 use Rattle.std.specs.List.{list_all}
-use Rattle.std.proofs.lemmas.Bool.{false≢true}
+use Rattle.std.proofs.lemmas.Bool.{false≢true, and_parts, and_from}
 use Rattle.ir_ast.specs.Insts.{Instruction}
 use Rattle.ir_ast.specs.Blocks.{EndsAtTerminator}
 use Rattle.ir_ast.specs.Ops.{is_terminator}
@@ -11,23 +11,16 @@ ends_well [] = false
 ends_well (inst ∷ []) = is_terminator inst.op
 ends_well (inst ∷ next ∷ insts) = not (is_terminator inst.op) && ends_well (next ∷ insts)
 
-both : (x y : Bool) → (x && y) ≡ true → (x ≡ true) × (y ≡ true)
-both true y e = (refl, e)
-both false y e = absurd (false≢true e)
-
-join : (x y : Bool) → x ≡ true → y ≡ true → (x && y) ≡ true
-join x y first second = rw (first, second) refl
-
 pub ends_from : (insts : List Instruction) → ends_well insts ≡ true → EndsAtTerminator insts
 ends_from [] is = absurd (false≢true is)
 ends_from (inst ∷ []) is = record { before = []; last = inst; whole = refl; ends = is; inside = refl }
 ends_from (inst ∷ next ∷ insts) is =
-    let parts = both (not (is_terminator inst.op)) (ends_well (next ∷ insts)) is in
+    let parts = and_parts (not (is_terminator inst.op)) (ends_well (next ∷ insts)) is in
     let rest = ends_from (next ∷ insts) parts.1 in
     record {
       before = inst ∷ rest.before;
       last = rest.last;
       whole = ap (λ (xs : List Instruction). inst ∷ xs) rest.whole;
       ends = rest.ends;
-      inside = join (not (is_terminator inst.op)) (list_all (λ (inside : Instruction). not (is_terminator inside.op)) rest.before) parts.0 rest.inside;
+      inside = and_from (not (is_terminator inst.op)) (list_all (λ (inside : Instruction). not (is_terminator inside.op)) rest.before) parts.0 rest.inside;
     }

@@ -14,7 +14,7 @@ use Rattle.generated_runs.proofs.Steps.{World, at, front, setting}
 use Rattle.generated_runs.proofs.Heaps.{Heap, heap_within}
 use Rattle.generated_runs.proofs.Shapes.{Back, making_back, looping_back, first_back, later_back}
 
-drawn_below : (below state : ℕ) → 0 < below → drawn below state < below
+pub drawn_below : (below state : ℕ) → 0 < below → drawn below state < below
 unfolding drawn
 drawn_below below state some = omega arith
 

@@ -32,6 +32,7 @@ use Rattle.generated_runs.proofs.Steps.{layouts_of, World, at, giving, acting, f
 use Rattle.generated_runs.proofs.Heaps.{Heap, IsNode, one_node, heap_within}
 use Rattle.generated_runs.proofs.Shapes.{Back, ahead, here, reaches_on}
 use Rattle.generated_runs.proofs.Chain.{all_run}
+use Rattle.list_laws.proofs.Ranges.{range_get}
 
 -- ---- the functions of a module
 
@@ -41,12 +42,7 @@ functions seed size = map (function_at seed) (range_with_len 0 size)
 abbrev funcs_of : ℕ → ℕ → List Function
 funcs_of seed size = functions seed size ++ main_of size ∷ []
 
-range_get : (start count k : ℕ) → k < count → slice_get (range_with_len start count) k ≡ Some (start + k)
-range_get start zero k less = absurd (omega arith)
-range_get start (suc count) zero less = ap (λ (n : ℕ). Some n) (omega arith)
-range_get start (suc count) (suc k) less = range_get (start + 1) count k (omega arith) ∙ ap (λ (n : ℕ). Some n) (omega arith)
-
-function_there : (seed size place : ℕ) → place < size → slice_get (funcs_of seed size) place ≡ Some (function_at seed place)
+pub function_there : (seed size place : ℕ) → place < size → slice_get (funcs_of seed size) place ≡ Some (function_at seed place)
 function_there seed size place less =
     get_front (functions seed size) (main_of size ∷ []) place (function_at seed place)
     (get_map (function_at seed) (range_with_len 0 size) place place (range_get 0 size place less ∙ ap (λ (n : ℕ). Some n) (omega arith)))

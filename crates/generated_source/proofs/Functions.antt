@@ -30,6 +30,7 @@ use Rattle.generated_source.proofs.Lines.{IsFine, Calls, Stays, fine_new, fine_f
 use Rattle.generated_source.proofs.Uses.{uses_settle, uses_settled, blocks_settle, lines_settle, line_settles, entries_settle, entry_settles, settles, given_before, is_home, entry_length}
 use Rattle.generated_source.proofs.Names.{differ, all_distinct, absent, names_distinct, not_inserted, numbered_spelled, free_function}
 use Rattle.generated_source.proofs.Phis.{phis_first, rest_plain, plain, phis_right, none_right, head_of, two_entries, HeadsAreRight}
+use Rattle.std.proofs.lemmas.Option.{none-some, same_Some}
 
 -- what a source module asks of one of its functions
 pub record IsSound (funcs : List Function) (func : Function) : Type 0 where
@@ -159,20 +160,14 @@ module _ (funcs : List Function) (place : ℕ) (few : place < 2 ^ 62) (short : l
       ))
       making_phis refl (omega arith) (omega arith) refl refl refl refl refl refl refl short
 
-some_same : {A : Type 0} (x y : A) → Some x ≡ Some y → x ≡ y
-some_same x y same = cc
-
-none_some : {A : Type 0} (x : A) → None ≡ Some x → ⊥
-none_some x same = cc
-
 -- a head that is no phi, and one that is right
 plain_head : {P : Type 0} (one block : BasicBlock) → Some one ≡ Some block → not (is_phi (head_of one.insts).op) ≡ true → is_phi (head_of block.insts).op ≡ true → P
 plain_head one block at plain is =
-    let same : one ≡ block = some_same one block at in
+    let same : one ≡ block = same_Some one block at in
     absurd (false≢true (rw (subst (λ (b : BasicBlock). is_phi (head_of b.insts).op ≡ true) (sym same) is) at plain))
 
 right_head : (func : Function) (number : ℕ) (one block : BasicBlock) → Some one ≡ Some block → PhiIsRight func number [] (head_of one.insts) → PhiIsRight func number [] (head_of block.insts)
-right_head func number one block at right = subst (λ (b : BasicBlock). PhiIsRight func number [] (head_of b.insts)) (some_same one block at) right
+right_head func number one block at right = subst (λ (b : BasicBlock). PhiIsRight func number [] (head_of b.insts)) (same_Some one block at) right
 
 module _ (funcs : List Function) (place : ℕ) (few : place < 2 ^ 62) (short : length (numbered_name (codes "g") (place + 1)) ≤ 4096) (constant : ℕ) (low : constant < 100) where
   -- ---- the loop
@@ -190,7 +185,7 @@ module _ (funcs : List Function) (place : ℕ) (few : place < 2 ^ 62) (short : l
       right_head (function place (looping constant)) 1 _ block at
       (record { first = refl; counted = looping_counts; agree = two_entries (codes "i") (Integer 64) (Int 0) 0 6 1 (differ 0 1 refl) })
   looping_heads (suc (suc zero)) block at is = plain_head _ block at refl is
-  looping_heads (suc (suc (suc number))) block at is = absurd (none_some block at)
+  looping_heads (suc (suc (suc number))) block at is = absurd (none-some block at)
 
   looping_phis : PhisAreRight (function place (looping constant))
   unfolding phis_first rest_plain plain head_of
@@ -249,7 +244,7 @@ module _ (funcs : List Function) (place : ℕ) (few : place < 2 ^ 62) (short : l
   first_heads (suc (suc zero)) block at is =
       right_head (function place (merging 0 constant)) 2 _ block at
       (record { first = refl; counted = first_counts; agree = two_entries (codes "p") Ptr (value 3) 0 5 1 (differ 0 1 refl) })
-  first_heads (suc (suc (suc number))) block at is = absurd (none_some block at)
+  first_heads (suc (suc (suc number))) block at is = absurd (none-some block at)
 
   first_phis : PhisAreRight (function place (merging 0 constant))
   unfolding phis_first rest_plain plain head_of
@@ -306,7 +301,7 @@ module _ (funcs : List Function) (place : ℕ) (few : place < 2 ^ 62) (short : l
   later_heads before (suc (suc zero)) block at is =
       right_head (function place (merging (suc before) constant)) 2 _ block at
       (record { first = refl; counted = later_counts before; agree = two_entries (codes "p") Ptr (value 3) 0 5 1 (differ 0 1 refl) })
-  later_heads before (suc (suc (suc number))) block at is = absurd (none_some block at)
+  later_heads before (suc (suc (suc number))) block at is = absurd (none-some block at)
 
   later_phis : (before : ℕ) → PhisAreRight (function place (merging (suc before) constant))
   unfolding phis_first rest_plain plain head_of

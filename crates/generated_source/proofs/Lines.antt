@@ -29,6 +29,7 @@ use Rattle.ir_ast.specs.Faults.DerivedEscapes.{KeepsDerived}
 use Rattle.ir_ast.specs.declared.ops.Callee.TheVariants.{Fun}
 use Rattle.generated_forms.specs.Lines.{value, block, new_line, field_line, load_line, store_line, add_line, below_line, phi_line, call_line, print_line, jump_line, branch_line, return_line}
 use Rattle.generated_forms.specs.Modules.{node}
+use Rattle.list_laws.proofs.Contents.{all_one}
 
 -- the module of these functions
 abbrev pub module_of : List Function → ModuleContent
@@ -54,12 +55,6 @@ Has func number ty = slice_get (value_types func) number ≡ Some ty
 known : (func : Function) (number : ℕ) (ty : Ty) → Has func number ty → number < length (definitions_of func)
 known func number ty has =
     subst (λ n. number < n) (length-map (definitions_of func) definition_type) (slice_get_within (value_types func) number ty has)
-
-none : {A : Type 0} (P : A → Type 0) → All P []
-none P = All-nil P
-
-one : {A : Type 0} (P : A → Type 0) (x : A) → P x → All P (x ∷ [])
-one P x holds = All-from_recursion P (x ∷ []) (holds, tt)
 
 two : {A : Type 0} (P : A → Type 0) (x y : A) → P x → P y → All P (x ∷ y ∷ [])
 two P x y first second = All-from_recursion P (x ∷ y ∷ []) (first, (second, tt))
@@ -105,113 +100,113 @@ module _ (funcs : List Function) (func : Function) where
   pub fine_new : (name : List ℕ) (count : ℕ) → count < 2 ^ 64 → IsFine funcs func (new_line name count)
   fine_new name count small = record {
     line = record { result = refl; type = refl; arguments = (refl, tt); no_labels = refl; bundle = refl; leaf = λ _. refl };
-    typed = record { operands = ((64, refl, small), tt); bundle = none (Passed func); rule = record { signature = refl; operands = tt } };
-    local = record { values = none (Value func); blocks = none (Inside func) };
-    global = record { layouts = one (Laid funcs) 0 (omega arith); functions = none (Named funcs) };
+    typed = record { operands = ((64, refl, small), tt); bundle = All-nil (Passed func); rule = record { signature = refl; operands = tt } };
+    local = record { values = All-nil (Value func); blocks = All-nil (Inside func) };
+    global = record { layouts = all_one (Laid funcs) 0 (omega arith); functions = All-nil (Named funcs) };
     entry = λ e. absurd (false≢true e);
     pointers = refl;
     plain = refl;
     bundle = refl;
-    widths = one (IsWidth) 64 wide;
-    stays = none (Stay func);
+    widths = all_one (IsWidth) 64 wide;
+    stays = All-nil (Stay func);
   }
 
   pub fine_field : (name : List ℕ) (base element : ℕ) → Has func base Ptr → element < 2 ^ 64 → IsFine funcs func (field_line name base element)
   fine_field name base element from small = record {
     line = (record { result = refl; type = refl; operand_count = refl; values = refl; label_count = refl; no_bundle = refl }, refl);
-    typed = record { operands = (from, ((64, refl, small), tt)); bundle = none (Passed func); rule = omega arith };
-    local = record { values = one (Value func) base (known func base Ptr from); blocks = none (Inside func) };
-    global = record { layouts = one (Laid funcs) 0 (omega arith); functions = none (Named funcs) };
+    typed = record { operands = (from, ((64, refl, small), tt)); bundle = All-nil (Passed func); rule = omega arith };
+    local = record { values = all_one (Value func) base (known func base Ptr from); blocks = All-nil (Inside func) };
+    global = record { layouts = all_one (Laid funcs) 0 (omega arith); functions = All-nil (Named funcs) };
     entry = λ e. absurd (false≢true e);
     pointers = refl;
     plain = refl;
     bundle = refl;
-    widths = one (IsWidth) 64 wide;
-    stays = none (Stay func);
+    widths = all_one (IsWidth) 64 wide;
+    stays = All-nil (Stay func);
   }
 
   pub fine_load : (name : List ℕ) (from : ℕ) → Has func from Ptr → IsFine funcs func (load_line name from)
   fine_load name from is = record {
     line = record { result = refl; type = refl; operand_count = refl; values = refl; label_count = refl; no_bundle = refl };
-    typed = record { operands = (is, tt); bundle = none (Passed func); rule = (I64, refl) };
-    local = record { values = one (Value func) from (known func from Ptr is); blocks = none (Inside func) };
-    global = record { layouts = none (Laid funcs); functions = none (Named funcs) };
+    typed = record { operands = (is, tt); bundle = All-nil (Passed func); rule = (I64, refl) };
+    local = record { values = all_one (Value func) from (known func from Ptr is); blocks = All-nil (Inside func) };
+    global = record { layouts = All-nil (Laid funcs); functions = All-nil (Named funcs) };
     entry = λ e. absurd (false≢true e);
     pointers = refl;
     plain = refl;
     bundle = refl;
-    widths = one (IsWidth) 64 wide;
-    stays = none (Stay func);
+    widths = all_one (IsWidth) 64 wide;
+    stays = All-nil (Stay func);
   }
 
   pub fine_store : (what to : ℕ) → Has func what (Integer 64) → Stays func what → Has func to Ptr → IsFine funcs func (store_line (value what) to)
   fine_store what to is stays at = record {
     line = record { result = refl; type = refl; operand_count = refl; values = refl; label_count = refl; no_bundle = refl };
-    typed = record { operands = (is, (at, tt)); bundle = none (Passed func); rule = (I64, refl) };
-    local = record { values = two (Value func) what to (known func what (Integer 64) is) (known func to Ptr at); blocks = none (Inside func) };
-    global = record { layouts = none (Laid funcs); functions = none (Named funcs) };
+    typed = record { operands = (is, (at, tt)); bundle = All-nil (Passed func); rule = (I64, refl) };
+    local = record { values = two (Value func) what to (known func what (Integer 64) is) (known func to Ptr at); blocks = All-nil (Inside func) };
+    global = record { layouts = All-nil (Laid funcs); functions = All-nil (Named funcs) };
     entry = λ e. absurd (false≢true e);
     pointers = refl;
     plain = refl;
     bundle = refl;
-    widths = one (IsWidth) 64 wide;
-    stays = one (Stay func) what stays;
+    widths = all_one (IsWidth) 64 wide;
+    stays = all_one (Stay func) what stays;
   }
 
   pub fine_store_literal : (what to : ℕ) → what < 2 ^ 64 → Has func to Ptr → IsFine funcs func (store_line (Int what) to)
   fine_store_literal what to small at = record {
     line = record { result = refl; type = refl; operand_count = refl; values = refl; label_count = refl; no_bundle = refl };
-    typed = record { operands = ((64, refl, small), (at, tt)); bundle = none (Passed func); rule = (I64, refl) };
-    local = record { values = one (Value func) to (known func to Ptr at); blocks = none (Inside func) };
-    global = record { layouts = none (Laid funcs); functions = none (Named funcs) };
+    typed = record { operands = ((64, refl, small), (at, tt)); bundle = All-nil (Passed func); rule = (I64, refl) };
+    local = record { values = all_one (Value func) to (known func to Ptr at); blocks = All-nil (Inside func) };
+    global = record { layouts = All-nil (Laid funcs); functions = All-nil (Named funcs) };
     entry = λ e. absurd (false≢true e);
     pointers = refl;
     plain = refl;
     bundle = refl;
-    widths = one (IsWidth) 64 wide;
-    stays = none (Stay func);
+    widths = all_one (IsWidth) 64 wide;
+    stays = All-nil (Stay func);
   }
 
   pub fine_add : (name : List ℕ) (left right : ℕ) → Has func left (Integer 64) → Has func right (Integer 64) → IsFine funcs func (add_line name left (value right))
   fine_add name left right first second = record {
     line = record { result = refl; type = refl; operand_count = refl; values = refl; label_count = refl; no_bundle = refl };
-    typed = record { operands = (first, (second, tt)); bundle = none (Passed func); rule = tt };
-    local = record { values = two (Value func) left right (known func left (Integer 64) first) (known func right (Integer 64) second); blocks = none (Inside func) };
-    global = record { layouts = none (Laid funcs); functions = none (Named funcs) };
+    typed = record { operands = (first, (second, tt)); bundle = All-nil (Passed func); rule = tt };
+    local = record { values = two (Value func) left right (known func left (Integer 64) first) (known func right (Integer 64) second); blocks = All-nil (Inside func) };
+    global = record { layouts = All-nil (Laid funcs); functions = All-nil (Named funcs) };
     entry = λ e. absurd (false≢true e);
     pointers = refl;
     plain = refl;
     bundle = refl;
-    widths = one (IsWidth) 64 wide;
-    stays = none (Stay func);
+    widths = all_one (IsWidth) 64 wide;
+    stays = All-nil (Stay func);
   }
 
   pub fine_add_literal : (name : List ℕ) (left right : ℕ) → Has func left (Integer 64) → right < 2 ^ 64 → IsFine funcs func (add_line name left (Int right))
   fine_add_literal name left right first small = record {
     line = record { result = refl; type = refl; operand_count = refl; values = refl; label_count = refl; no_bundle = refl };
-    typed = record { operands = (first, ((64, refl, small), tt)); bundle = none (Passed func); rule = tt };
-    local = record { values = one (Value func) left (known func left (Integer 64) first); blocks = none (Inside func) };
-    global = record { layouts = none (Laid funcs); functions = none (Named funcs) };
+    typed = record { operands = (first, ((64, refl, small), tt)); bundle = All-nil (Passed func); rule = tt };
+    local = record { values = all_one (Value func) left (known func left (Integer 64) first); blocks = All-nil (Inside func) };
+    global = record { layouts = All-nil (Laid funcs); functions = All-nil (Named funcs) };
     entry = λ e. absurd (false≢true e);
     pointers = refl;
     plain = refl;
     bundle = refl;
-    widths = one (IsWidth) 64 wide;
-    stays = none (Stay func);
+    widths = all_one (IsWidth) 64 wide;
+    stays = All-nil (Stay func);
   }
 
   pub fine_below : (name : List ℕ) (left right : ℕ) → Has func left (Integer 64) → right < 2 ^ 64 → IsFine funcs func (below_line name left right)
   fine_below name left right first small = record {
     line = record { result = refl; type = refl; operand_count = refl; values = refl; label_count = refl; no_bundle = refl };
-    typed = record { operands = (first, ((64, refl, small), tt)); bundle = none (Passed func); rule = tt };
-    local = record { values = one (Value func) left (known func left (Integer 64) first); blocks = none (Inside func) };
-    global = record { layouts = none (Laid funcs); functions = none (Named funcs) };
+    typed = record { operands = (first, ((64, refl, small), tt)); bundle = All-nil (Passed func); rule = tt };
+    local = record { values = all_one (Value func) left (known func left (Integer 64) first); blocks = All-nil (Inside func) };
+    global = record { layouts = All-nil (Laid funcs); functions = All-nil (Named funcs) };
     entry = λ e. absurd (false≢true e);
     pointers = refl;
     plain = refl;
     bundle = refl;
-    widths = one (IsWidth) 64 wide;
-    stays = none (Stay func);
+    widths = all_one (IsWidth) 64 wide;
+    stays = All-nil (Stay func);
   }
 
   -- a phi of two pointers
@@ -219,15 +214,15 @@ module _ (funcs : List Function) (func : Function) where
       → IsFine funcs func (phi_line name Ptr (value first) from second other)
   fine_choice name first from second other one_is two_is one_from two_from = record {
     line = (record { result = refl; type = refl; operand_count = refl; values = refl; label_count = refl; no_bundle = refl }, omega arith);
-    typed = record { operands = (one_is, (two_is, tt)); bundle = none (Passed func); rule = tt };
+    typed = record { operands = (one_is, (two_is, tt)); bundle = All-nil (Passed func); rule = tt };
     local = record { values = two (Value func) first second (known func first Ptr one_is) (known func second Ptr two_is); blocks = two (Inside func) (block from) (block other) one_from two_from };
-    global = record { layouts = none (Laid funcs); functions = none (Named funcs) };
+    global = record { layouts = All-nil (Laid funcs); functions = All-nil (Named funcs) };
     entry = λ e. absurd (false≢true e);
     pointers = refl;
     plain = refl;
     bundle = refl;
-    widths = none (IsWidth);
-    stays = none (Stay func);
+    widths = All-nil (IsWidth);
+    stays = All-nil (Stay func);
   }
 
   -- a phi of a literal and a number
@@ -235,24 +230,24 @@ module _ (funcs : List Function) (func : Function) where
       → IsFine funcs func (phi_line name (Integer 64) (Int first) from second other)
   fine_count name first from second other small is one_from two_from = record {
     line = (record { result = refl; type = refl; operand_count = refl; values = refl; label_count = refl; no_bundle = refl }, omega arith);
-    typed = record { operands = ((64, refl, small), (is, tt)); bundle = none (Passed func); rule = tt };
-    local = record { values = one (Value func) second (known func second (Integer 64) is); blocks = two (Inside func) (block from) (block other) one_from two_from };
-    global = record { layouts = none (Laid funcs); functions = none (Named funcs) };
+    typed = record { operands = ((64, refl, small), (is, tt)); bundle = All-nil (Passed func); rule = tt };
+    local = record { values = all_one (Value func) second (known func second (Integer 64) is); blocks = two (Inside func) (block from) (block other) one_from two_from };
+    global = record { layouts = All-nil (Laid funcs); functions = All-nil (Named funcs) };
     entry = λ e. absurd (false≢true e);
     pointers = refl;
     plain = refl;
     bundle = refl;
-    widths = one (IsWidth) 64 wide;
-    stays = none (Stay func);
+    widths = all_one (IsWidth) 64 wide;
+    stays = All-nil (Stay func);
   }
 
   pub fine_call : (name : List ℕ) (place object number : ℕ) → Calls funcs place → Has func object Ptr → Stays func object → Has func number (Integer 64) → Stays func number
       → IsFine funcs func (call_line name place object (value number))
   fine_call name place object number calls is stays number_is number_stays = record {
     line = record { result = refl; type = refl; arguments = (refl, (refl, tt)); no_labels = refl; bundle = refl; leaf = λ _. refl };
-    typed = record { operands = (is, (number_is, tt)); bundle = none (Passed func); rule = record { signature = calls.taken; operands = tt } };
-    local = record { values = two (Value func) object number (known func object Ptr is) (known func number (Integer 64) number_is); blocks = none (Inside func) };
-    global = record { layouts = none (Laid funcs); functions = one (Named funcs) place calls.inside };
+    typed = record { operands = (is, (number_is, tt)); bundle = All-nil (Passed func); rule = record { signature = calls.taken; operands = tt } };
+    local = record { values = two (Value func) object number (known func object Ptr is) (known func number (Integer 64) number_is); blocks = All-nil (Inside func) };
+    global = record { layouts = All-nil (Laid funcs); functions = all_one (Named funcs) place calls.inside };
     entry = λ e. absurd (false≢true e);
     pointers = refl;
     plain = refl;
@@ -265,84 +260,84 @@ module _ (funcs : List Function) (func : Function) where
       → IsFine funcs func (call_line name place object (Int number))
   fine_call_literal name place object number calls is stays small = record {
     line = record { result = refl; type = refl; arguments = (refl, (refl, tt)); no_labels = refl; bundle = refl; leaf = λ _. refl };
-    typed = record { operands = (is, ((64, refl, small), tt)); bundle = none (Passed func); rule = record { signature = calls.taken; operands = tt } };
-    local = record { values = one (Value func) object (known func object Ptr is); blocks = none (Inside func) };
-    global = record { layouts = none (Laid funcs); functions = one (Named funcs) place calls.inside };
+    typed = record { operands = (is, ((64, refl, small), tt)); bundle = All-nil (Passed func); rule = record { signature = calls.taken; operands = tt } };
+    local = record { values = all_one (Value func) object (known func object Ptr is); blocks = All-nil (Inside func) };
+    global = record { layouts = All-nil (Laid funcs); functions = all_one (Named funcs) place calls.inside };
     entry = λ e. absurd (false≢true e);
     pointers = refl;
     plain = refl;
     bundle = refl;
     widths = two (IsWidth) 64 64 wide wide;
-    stays = one (Stay func) object stays;
+    stays = all_one (Stay func) object stays;
   }
 
   pub fine_print : (number : ℕ) → Has func number (Integer 64) → Stays func number → IsFine funcs func (print_line number)
   fine_print number is stays = record {
     line = record { result = refl; type = refl; arguments = (refl, tt); no_labels = refl; bundle = refl; leaf = λ _. refl };
-    typed = record { operands = (is, tt); bundle = none (Passed func); rule = record { signature = refl; operands = tt } };
-    local = record { values = one (Value func) number (known func number (Integer 64) is); blocks = none (Inside func) };
-    global = record { layouts = none (Laid funcs); functions = none (Named funcs) };
+    typed = record { operands = (is, tt); bundle = All-nil (Passed func); rule = record { signature = refl; operands = tt } };
+    local = record { values = all_one (Value func) number (known func number (Integer 64) is); blocks = All-nil (Inside func) };
+    global = record { layouts = All-nil (Laid funcs); functions = All-nil (Named funcs) };
     entry = λ e. absurd (false≢true e);
     pointers = refl;
     plain = refl;
     bundle = refl;
-    widths = one (IsWidth) 64 wide;
-    stays = one (Stay func) number stays;
+    widths = all_one (IsWidth) 64 wide;
+    stays = all_one (Stay func) number stays;
   }
 
   pub fine_jump : (to : ℕ) → to < length func.blocks → to ≢ 0 → IsFine funcs func (jump_line to)
   fine_jump to inside later = record {
     line = record { result = refl; type = refl; operand_count = refl; values = refl; label_count = refl; no_bundle = refl };
-    typed = record { operands = tt; bundle = none (Passed func); rule = tt };
-    local = record { values = none (Value func); blocks = one (Inside func) (block to) inside };
-    global = record { layouts = none (Laid funcs); functions = none (Named funcs) };
-    entry = λ _. one (Later) (block to) later;
+    typed = record { operands = tt; bundle = All-nil (Passed func); rule = tt };
+    local = record { values = All-nil (Value func); blocks = all_one (Inside func) (block to) inside };
+    global = record { layouts = All-nil (Laid funcs); functions = All-nil (Named funcs) };
+    entry = λ _. all_one (Later) (block to) later;
     pointers = refl;
     plain = refl;
     bundle = refl;
-    widths = none (IsWidth);
-    stays = none (Stay func);
+    widths = All-nil (IsWidth);
+    stays = All-nil (Stay func);
   }
 
   pub fine_branch : (test taken other : ℕ) → Has func test (Integer 1) → taken < length func.blocks → other < length func.blocks → taken ≢ 0 → other ≢ 0
       → IsFine funcs func (branch_line test taken other)
   fine_branch test taken other is taken_inside other_inside taken_later other_later = record {
     line = record { result = refl; type = refl; operand_count = refl; values = refl; label_count = refl; no_bundle = refl };
-    typed = record { operands = (is, tt); bundle = none (Passed func); rule = tt };
-    local = record { values = one (Value func) test (known func test (Integer 1) is); blocks = two (Inside func) (block taken) (block other) taken_inside other_inside };
-    global = record { layouts = none (Laid funcs); functions = none (Named funcs) };
+    typed = record { operands = (is, tt); bundle = All-nil (Passed func); rule = tt };
+    local = record { values = all_one (Value func) test (known func test (Integer 1) is); blocks = two (Inside func) (block taken) (block other) taken_inside other_inside };
+    global = record { layouts = All-nil (Laid funcs); functions = All-nil (Named funcs) };
     entry = λ _. two (Later) (block taken) (block other) taken_later other_later;
     pointers = refl;
     plain = refl;
     bundle = refl;
-    widths = one (IsWidth) 1 bit_wide;
-    stays = none (Stay func);
+    widths = all_one (IsWidth) 1 bit_wide;
+    stays = All-nil (Stay func);
   }
 
   pub fine_return : (answer : ℕ) → func.answer ≡ Integer 64 → Has func answer (Integer 64) → Stays func answer → IsFine funcs func (return_line (value answer))
   fine_return answer answers is stays = record {
     line = record { result = refl; type = refl; operand_count = refl; values = refl; label_count = refl; no_bundle = refl };
-    typed = record { operands = (is, tt); bundle = none (Passed func); rule = sym answers };
-    local = record { values = one (Value func) answer (known func answer (Integer 64) is); blocks = none (Inside func) };
-    global = record { layouts = none (Laid funcs); functions = none (Named funcs) };
-    entry = λ _. none (Later);
+    typed = record { operands = (is, tt); bundle = All-nil (Passed func); rule = sym answers };
+    local = record { values = all_one (Value func) answer (known func answer (Integer 64) is); blocks = All-nil (Inside func) };
+    global = record { layouts = All-nil (Laid funcs); functions = All-nil (Named funcs) };
+    entry = λ _. All-nil (Later);
     pointers = refl;
     plain = refl;
     bundle = refl;
-    widths = one (IsWidth) 64 wide;
-    stays = one (Stay func) answer stays;
+    widths = all_one (IsWidth) 64 wide;
+    stays = all_one (Stay func) answer stays;
   }
 
   pub fine_return_literal : (answer : ℕ) → func.answer ≡ Integer 64 → answer < 2 ^ 64 → IsFine funcs func (return_line (Int answer))
   fine_return_literal answer answers small = record {
     line = record { result = refl; type = refl; operand_count = refl; values = refl; label_count = refl; no_bundle = refl };
-    typed = record { operands = ((64, refl, small), tt); bundle = none (Passed func); rule = sym answers };
-    local = record { values = none (Value func); blocks = none (Inside func) };
-    global = record { layouts = none (Laid funcs); functions = none (Named funcs) };
-    entry = λ _. none (Later);
+    typed = record { operands = ((64, refl, small), tt); bundle = All-nil (Passed func); rule = sym answers };
+    local = record { values = All-nil (Value func); blocks = All-nil (Inside func) };
+    global = record { layouts = All-nil (Laid funcs); functions = All-nil (Named funcs) };
+    entry = λ _. All-nil (Later);
     pointers = refl;
     plain = refl;
     bundle = refl;
-    widths = one (IsWidth) 64 wide;
-    stays = none (Stay func);
+    widths = all_one (IsWidth) 64 wide;
+    stays = All-nil (Stay func);
   }

@@ -2,7 +2,7 @@
 use Rattle.std.proofs.Common.{◌≡◌, ◌≢◌, ◌∙◌, ℕ, zero, suc, ◌+◌, ◌<◌, ◌≤◌, ◌^◌, Bool, true, false, not, ◌&&◌, if◌then◌else◌, List, [], ◌∷◌, ◌++◌, length, map, filter, Some, None, refl, sym, ap, subst, inl, inr, codes, arith, add-one}
 use Rattle.std.specs.Prelude.{slice_get, is_some, nat_lt, take}
 use Rattle.std.specs.List.{All, list_all, flat_map, range_with_len}
-use Rattle.std.proofs.lemmas.Bool.{false≢true, cases_Bool, ltb-true, lt-ltb}
+use Rattle.std.proofs.lemmas.Bool.{false≢true, cases_Bool, ltb-true, lt-ltb, not-true, and_parts}
 use Rattle.std.proofs.lemmas.List.{append-nil}
 use Rattle.std.proofs.lemmas.List.Elements.{All-nil, All-cons, All-append, All-from_recursion}
 use Rattle.list_laws.proofs.Contents.{get_contained, all_at}
@@ -28,10 +28,12 @@ use Rattle.generated_forms.specs.Lines.{numbered_name, new_line, call_line, retu
 use Rattle.generated_forms.specs.Modules.{visit, visits, main_of}
 use Rattle.generated_forms.proofs.Visits.{main_ends, main_length}
 use Rattle.generated_source.proofs.Lines.{IsFine, Calls, Has, Stays, fine_new, fine_call_literal, fine_print, fine_return_literal}
-use Rattle.generated_source.proofs.Uses.{GivenBefore, both, passes, before_definite}
+use Rattle.generated_source.proofs.Uses.{GivenBefore, before_definite}
 use Rattle.generated_source.proofs.Names.{differ, names_distinct, all_distinct, absent, distinct_nil, distinct_cons, numbered_spelled, numbered_apart, not_inserted, free_main, first_byte}
 use Rattle.generated_source.proofs.Phis.{phis_first, rest_plain, plain, head_of, none_right}
 use Rattle.generated_source.proofs.Functions.{IsSound, is_plain_value, plain_definition, plain_stays}
+use Rattle.list_laws.proofs.Ranges.{range_get}
+use Rattle.list_laws.proofs.Tests.{all_passes}
 
 -- ---- what holds of each number of a range
 
@@ -47,11 +49,6 @@ map_range_all P f start zero each = All-nil P
 map_range_all P f start (suc count) each =
     All-cons P (f start) (map f (range_with_len (start + 1) count)) (each start (omega arith) (omega arith))
     (map_range_all P f (start + 1) count (λ place low high. each place (omega arith) (omega arith)))
-
-pub range_get : (start count k : ℕ) → k < count → slice_get (range_with_len start count) k ≡ Some (start + k)
-range_get start zero k less = absurd (omega arith)
-range_get start (suc count) zero less = ap (λ (n : ℕ). Some n) (omega arith)
-range_get start (suc count) (suc k) less = range_get (start + 1) count k (omega arith) ∙ ap (λ (n : ℕ). Some n) (omega arith)
 
 -- ---- names that differ
 
@@ -124,24 +121,20 @@ pub record StandsStraight (insts : List Instruction) (next place : ℕ) (inst : 
   pub plain : is_phi inst.op ≡ false
   pub uses : list_all (λ value. nat_lt value (next + length (filter (λ inst. is_some inst.result) (take place insts)))) (values_used inst) ≡ true
 
-plain_op : (b : Bool) → not b ≡ true → b ≡ false
-plain_op true is = absurd (false≢true is)
-plain_op false is = refl
-
 straight_at : (next : ℕ) (insts : List Instruction) (place : ℕ) (inst : Instruction) → straight next insts ≡ true → slice_get insts place ≡ Some inst → StandsStraight insts next place inst
 unfolding straight
 straight_at next [] place inst all at = absurd (let e : None ≡ Some inst = at in cc)
 straight_at next (first ∷ insts) zero inst all at =
     let same : first ≡ inst = (let e : Some first ≡ Some inst = at in cc) in
-    let parts = both (not (is_phi first.op)) (list_all (λ value. nat_lt value next) (values_used first)) (both (not (is_phi first.op) && list_all (λ value. nat_lt value next) (values_used first)) (straight (if is_some first.result then next + 1 else next) insts) all).0 in
+    let parts = and_parts (not (is_phi first.op)) (list_all (λ value. nat_lt value next) (values_used first)) (and_parts (not (is_phi first.op) && list_all (λ value. nat_lt value next) (values_used first)) (straight (if is_some first.result then next + 1 else next) insts) all).0 in
     record {
-      plain = subst (λ (i : Instruction). is_phi i.op ≡ false) same (plain_op (is_phi first.op) parts.0);
+      plain = subst (λ (i : Instruction). is_phi i.op ≡ false) same (not-true (is_phi first.op) parts.0);
       uses = subst (λ (i : Instruction). list_all (λ value. nat_lt value (next + 0)) (values_used i) ≡ true) same
           (subst (λ (n : ℕ). list_all (λ value. nat_lt value n) (values_used first) ≡ true) (omega arith) parts.1);
     }
 straight_at next (first ∷ insts) (suc place) inst all at =
     let rest = straight_at (if is_some first.result then next + 1 else next) insts place inst
-    (both (not (is_phi first.op) && list_all (λ value. nat_lt value next) (values_used first)) (straight (if is_some first.result then next + 1 else next) insts) all).1 at in
+    (and_parts (not (is_phi first.op) && list_all (λ value. nat_lt value next) (values_used first)) (straight (if is_some first.result then next + 1 else next) insts) all).1 at in
     record {
       plain = rest.plain;
       uses = subst (λ (n : ℕ). list_all (λ value. nat_lt value n) (values_used inst) ≡ true) (shifted next first insts place) rest.uses;
@@ -197,7 +190,7 @@ module _ (name label : List ℕ) (ty : Ty) (insts : List Instruction) where
       let at = stands_in number place inst stands in
       let line = straight_at 0 insts place inst all at.1 in
       let used = get_contained (values_used inst) value uses in
-      let less : nat_lt value (0 + results (take place insts)) ≡ true = passes (λ v. nat_lt v (0 + results (take place insts))) (values_used inst) used.0 value line.uses used.1 in
+      let less : nat_lt value (0 + results (take place insts)) ≡ true = all_passes (λ v. nat_lt v (0 + results (take place insts))) (values_used inst) used.0 value line.uses used.1 in
       subst (λ (n : ℕ). IsDefinite alone value n place) (sym at.0)
       (before_definite alone value 0 place (defined value place (omega (arith, ltb-true value (0 + results (take place insts)) less))))
   alone_definite all _ _ _ _ (by_entry number place entry value phi operand label from stands is at_label at_operand names at_block) =

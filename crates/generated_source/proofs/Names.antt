@@ -5,7 +5,7 @@ use Rattle.std.specs.Fmt.{decimal}
 use Rattle.std.specs.Char.{is_ascii_digit}
 use Rattle.std.specs.Str.{bytes_eq}
 use Rattle.std.specs.List.{list_all}
-use Rattle.std.proofs.lemmas.Bool.{false≢true, or_right, eq-eqb}
+use Rattle.std.proofs.lemmas.Bool.{false≢true, or_right, eq-eqb, and_parts}
 use Rattle.std.proofs.lemmas.Bool.Decides.{nat_tests}
 use Rattle.std.proofs.lemmas.Fmt.{decimal_by_steps, decimal_injective}
 use Rattle.std.proofs.lemmas.List.Folds.{list_all-append}
@@ -15,7 +15,6 @@ use Rattle.ir_ast.specs.Lists.{Distinct}
 use Rattle.ir_ast.specs.Faults.Reserved.{IsExternalName, IsInsertedName, externals}
 use Rattle.ir_cfg.specs.Limits.{IsName}
 use Rattle.generated_forms.specs.Lines.{numbered_name}
-use Rattle.generated_source.proofs.Uses.{both}
 
 pub differ : (m n : ℕ) → (m == n) ≡ false → m ≡ n → ⊥
 differ m n other same = false≢true (sym other ∙ eq-eqb m n same)
@@ -47,7 +46,7 @@ digit_in_name b is = rw is (or_right _ true refl)
 digits_in_name : (bs : List ℕ) → list_all is_ascii_digit bs ≡ true → list_all in_name bs ≡ true
 digits_in_name [] all = refl
 digits_in_name (b ∷ bs) all =
-    let parts = both (is_ascii_digit b) (list_all is_ascii_digit bs) all in rw (digit_in_name b parts.0, digits_in_name bs parts.1) refl
+    let parts = and_parts (is_ascii_digit b) (list_all is_ascii_digit bs) all in rw (digit_in_name b parts.0, digits_in_name bs parts.1) refl
 
 after_first : List ℕ → List ℕ
 after_first [] = []
@@ -80,7 +79,7 @@ not_inserted b bs other front = other (ap first_byte front.1)
 second_is_digit : (ds : List ℕ) (b : ℕ) (bs : List ℕ) → list_all is_ascii_digit ds ≡ true → ds ≡ b ∷ bs → is_ascii_digit b ≡ true
 second_is_digit [] b bs all same = cc
 second_is_digit (d ∷ ds) b bs all same =
-    let equal : d ≡ b = cc in subst (λ (n : ℕ). is_ascii_digit n ≡ true) equal (both (is_ascii_digit d) (list_all is_ascii_digit ds) all).0
+    let equal : d ≡ b = cc in subst (λ (n : ℕ). is_ascii_digit n ≡ true) equal (and_parts (is_ascii_digit d) (list_all is_ascii_digit ds) all).0
 
 not_c : (ds : List ℕ) (bs : List ℕ) → list_all is_ascii_digit ds ≡ true → ds ≡ 99 ∷ bs → ⊥
 not_c ds bs all same = false≢true (second_is_digit ds 99 bs all same)
@@ -154,12 +153,12 @@ unfolding absent
 none_absent x [] all k at = cc
 none_absent x (y ∷ ys) all zero at =
     let same : y ≡ x = cc in
-    let differs : not (bytes_eq y x) ≡ true = (both (not (bytes_eq y x)) (absent x ys) all).0 in
+    let differs : not (bytes_eq y x) ≡ true = (and_parts (not (bytes_eq y x)) (absent x ys) all).0 in
     false≢true (rw (same, bytes_same x) at differs)
-none_absent x (y ∷ ys) all (suc k) at = none_absent x ys (both (not (bytes_eq y x)) (absent x ys) all).1 k at
+none_absent x (y ∷ ys) all (suc k) at = none_absent x ys (and_parts (not (bytes_eq y x)) (absent x ys) all).1 k at
 
 pub names_distinct : (xs : List (List ℕ)) → all_distinct xs ≡ true → Distinct xs
 unfolding all_distinct
 names_distinct [] all = distinct_nil
 names_distinct (x ∷ xs) all =
-    let parts = both (absent x xs) (all_distinct xs) all in distinct_cons x xs (none_absent x xs parts.0) (names_distinct xs parts.1)
+    let parts = and_parts (absent x xs) (all_distinct xs) all in distinct_cons x xs (none_absent x xs parts.0) (names_distinct xs parts.1)

@@ -2,7 +2,7 @@
 use Rattle.std.proofs.Common.{◌≡◌, ◌≢◌, ℕ, zero, suc, Bool, true, false, not, List, [], ◌∷◌, ◌++◌, Option, Some, None, refl, sym, ap, subst, arith}
 use Rattle.std.specs.Prelude.{slice_get}
 use Rattle.std.specs.List.{list_all}
-use Rattle.std.proofs.lemmas.Bool.{false≢true}
+use Rattle.std.proofs.lemmas.Bool.{false≢true, and_parts}
 use Rattle.sp_ids.specs.declared.ids.BlockId.{BlockId}
 use Rattle.ir_ast.specs.declared.types.Ty.{Ty}
 use Rattle.ir_ast.specs.declared.ops.Operand.{Operand}
@@ -11,18 +11,18 @@ use Rattle.ir_ast.specs.Blocks.{BasicBlock}
 use Rattle.ir_ast.specs.Funcs.{Function}
 use Rattle.ir_ast.specs.Faults.PhiEdges.{is_phi, PhiIsRight, PhisAreRight}
 use Rattle.generated_forms.specs.Lines.{block, phi_line, jump_line}
-use Rattle.generated_source.proofs.Uses.{both, passes}
+use Rattle.list_laws.proofs.Tests.{all_passes}
 
 unfoldable pub plain : Instruction → Bool
 plain inst = not (is_phi inst.op)
 
 middle_passes : (before after : List Instruction) (inst : Instruction) → list_all plain (before ++ inst ∷ after) ≡ true → plain inst ≡ true
-middle_passes [] after inst all = (both (plain inst) (list_all plain after) all).0
-middle_passes (first ∷ before) after inst all = middle_passes before after inst (both (plain first) (list_all plain (before ++ inst ∷ after)) all).1
+middle_passes [] after inst all = (and_parts (plain inst) (list_all plain after) all).0
+middle_passes (first ∷ before) after inst all = middle_passes before after inst (and_parts (plain first) (list_all plain (before ++ inst ∷ after)) all).1
 
 no_phi : (inst : Instruction) → plain inst ≡ true → is_phi inst.op ≡ true → ⊥
 unfolding plain
-no_phi inst passes is = false≢true (rw is at passes)
+no_phi inst all_passes is = false≢true (rw is at all_passes)
 
 unfoldable pub rest_plain : List Instruction → Bool
 rest_plain [] = true
@@ -51,14 +51,14 @@ phis_right func all heads number block [] after phi at whole is =
     let same : head_of block.insts ≡ phi = ap head_of whole in
     subst (λ (p : Instruction). PhiIsRight func number [] p) same (heads number block at (subst (λ (p : Instruction). is_phi p.op ≡ true) (sym same) is))
 phis_right func all heads number block (first ∷ before) after phi at whole is =
-    let rest : rest_plain block.insts ≡ true = passes (λ (b : BasicBlock). rest_plain b.insts) func.blocks number block all at in
+    let rest : rest_plain block.insts ≡ true = all_passes (λ (b : BasicBlock). rest_plain b.insts) func.blocks number block all at in
     let inside : list_all plain (before ++ phi ∷ after) ≡ true = subst (λ (insts : List Instruction). rest_plain insts ≡ true) whole rest in
     absurd (no_phi phi (middle_passes before after phi inside) is)
 
 -- no line of any block is a phi
 no_heads : (func : Function) → list_all (λ (block : BasicBlock). not (is_phi (head_of block.insts).op)) func.blocks ≡ true → HeadsAreRight func
 no_heads func all number block at is =
-    let passed : not (is_phi (head_of block.insts).op) ≡ true = passes (λ (b : BasicBlock). not (is_phi (head_of b.insts).op)) func.blocks number block all at in
+    let passed : not (is_phi (head_of block.insts).op) ≡ true = all_passes (λ (b : BasicBlock). not (is_phi (head_of b.insts).op)) func.blocks number block all at in
     absurd (false≢true (rw is at passed))
 
 pub none_right : (func : Function) → phis_first func ≡ true → list_all (λ (block : BasicBlock). not (is_phi (head_of block.insts).op)) func.blocks ≡ true → PhisAreRight func

@@ -4,7 +4,7 @@ use Rattle.std.proofs.Common.{◌≡◌, ◌≢◌, ℕ, zero, suc, ◌+◌, ◌
 use Rattle.std.specs.Prelude.{is_some, not, nat_lt, slice_get}
 use Rattle.std.specs.List.{list_all}
 use Rattle.std.specs.Option.{option_map_or}
-use Rattle.std.proofs.lemmas.Bool.{false≢true, or_cases, eqb-true, ltb-true}
+use Rattle.std.proofs.lemmas.Bool.{false≢true, or_cases, eqb-true, ltb-true, and_parts}
 use Rattle.list_laws.proofs.Contents.{get_contained}
 use Rattle.sp_ids.specs.declared.ids.BlockId.{BlockId}
 use Rattle.ir_ast.specs.declared.ops.Operand.{Operand}
@@ -17,19 +17,11 @@ use Rattle.ir_ast.specs.Faults.GroupShape.{number_at}
 use Rattle.ir_cfg.specs.Graphs.{Graph, graph_of}
 use Rattle.ir_cfg.specs.Paths.{Path, at_entry, along}
 use Rattle.ir_cfg.specs.DefiniteUses.{Stands, Defines, by_line, by_entry, in_arguments, in_earlier, in_last, IsDefinite, UsesAreDefinite, text_place}
-
-pub both : (x y : Bool) → (x && y) ≡ true → (x ≡ true) × (y ≡ true)
-both true y e = (refl, e)
-both false y e = absurd (false≢true e)
+use Rattle.list_laws.proofs.Tests.{all_passes}
 
 pub found : {A : Type 0} (o : Option A) (p : A → Bool) → option_map_or p o false ≡ true → (x : A) × (o ≡ Some x) × (p x ≡ true)
 found None p e = absurd (false≢true e)
 found (Some x) p e = (x, refl, e)
-
-pub passes : {A : Type 0} (p : A → Bool) (xs : List A) (k : ℕ) (x : A) → list_all p xs ≡ true → slice_get xs k ≡ Some x → p x ≡ true
-passes p [] k x all at = cc
-passes p (y ∷ ys) zero x all at = let same : y ≡ x = cc in rw same at (both (p y) (list_all p ys) all).0
-passes p (y ∷ ys) (suc k) x all at = passes p ys k x (both (p y) (list_all p ys) all).1 at
 
 -- ---- where a value is given
 
@@ -43,7 +35,7 @@ unfolding is_home
 home_defines func value number place is =
     let block = found (slice_get func.blocks number) (λ (block : BasicBlock). option_map_or (λ (inst : Instruction). is_some inst.result && (number_at func (text_place func number place) == value)) (slice_get block.insts place) false) is in
     let inst = found (slice_get block.0.insts place) (λ (inst : Instruction). is_some inst.result && (number_at func (text_place func number place) == value)) block.2 in
-    let parts = both (is_some inst.0.result) (number_at func (text_place func number place) == value) inst.2 in
+    let parts = and_parts (is_some inst.0.result) (number_at func (text_place func number place) == value) inst.2 in
     record {
       inst = inst.0;
       stands = record { block = block.0; in_function = block.1; in_block = inst.1 };
@@ -120,7 +112,7 @@ settled func value number place is = elim (or_cases (nat_lt value (length func.a
   | inr other ↦ elim (or_cases (given_before func value number place) (not (number == 0) && given_before func value 0 (entry_length func)) other) [
     | inl here ↦ before_definite func value number place (before_given func value number place here)
     | inr entry ↦
-        let parts = both (not (number == 0)) (given_before func value 0 (entry_length func)) entry in
+        let parts = and_parts (not (number == 0)) (given_before func value 0 (entry_length func)) entry in
         entry_definite func value number place (entry_length func) (before_given func value 0 (entry_length func) parts.1) (not_zero number parts.0)
   ]
 ]
@@ -153,10 +145,10 @@ unfolding lines_settle
 line_at func number place [] k inst all at = cc
 line_at func number place (first ∷ insts) zero inst all at =
     let same : first ≡ inst = cc in
-    let here = (both (line_settles func number place first) (lines_settle func number (place + 1) insts) all).0 in
+    let here = (and_parts (line_settles func number place first) (lines_settle func number (place + 1) insts) all).0 in
     subst (λ (n : ℕ). line_settles func number n inst ≡ true) (omega arith) (rw same at here)
 line_at func number place (first ∷ insts) (suc k) inst all at =
-    let rest = line_at func number (place + 1) insts k inst (both (line_settles func number place first) (lines_settle func number (place + 1) insts) all).1 at in
+    let rest = line_at func number (place + 1) insts k inst (and_parts (line_settles func number place first) (lines_settle func number (place + 1) insts) all).1 at in
     subst (λ (n : ℕ). line_settles func number n inst ≡ true) (omega arith) rest
 
 block_at : (func : Function) (start : ℕ) (blocks : List BasicBlock) (k : ℕ) (block : BasicBlock) → blocks_settle func start blocks ≡ true → slice_get blocks k ≡ Some block
@@ -165,10 +157,10 @@ unfolding blocks_settle
 block_at func start [] k block all at = cc
 block_at func start (first ∷ blocks) zero block all at =
     let same : first ≡ block = cc in
-    let here = (both (lines_settle func start 0 first.insts) (blocks_settle func (start + 1) blocks) all).0 in
+    let here = (and_parts (lines_settle func start 0 first.insts) (blocks_settle func (start + 1) blocks) all).0 in
     subst (λ (n : ℕ). lines_settle func n 0 block.insts ≡ true) (omega arith) (rw same at here)
 block_at func start (first ∷ blocks) (suc k) block all at =
-    let rest = block_at func (start + 1) blocks k block (both (lines_settle func start 0 first.insts) (blocks_settle func (start + 1) blocks) all).1 at in
+    let rest = block_at func (start + 1) blocks k block (and_parts (lines_settle func start 0 first.insts) (blocks_settle func (start + 1) blocks) all).1 at in
     subst (λ (n : ℕ). lines_settle func n 0 block.insts ≡ true) (omega arith) rest
 
 entry_at : (func : Function) (labels : List BlockId) (operands : List Operand) (k : ℕ) (label : BlockId) (operand : Operand) → entries_settle func labels operands ≡ true
@@ -179,10 +171,10 @@ entry_at func (first ∷ labels) [] k label operand all at_label at_operand = cc
 entry_at func (first ∷ labels) (one ∷ operands) zero label operand all at_label at_operand =
     let same : first ≡ label = cc in
     let same_operand : one ≡ operand = cc in
-    let here = (both (entry_settles func first (value_in one)) (entries_settle func labels operands) all).0 in
+    let here = (and_parts (entry_settles func first (value_in one)) (entries_settle func labels operands) all).0 in
     subst (λ (l : BlockId). entry_settles func l (value_in operand) ≡ true) same (subst (λ (o : Operand). entry_settles func first (value_in o) ≡ true) same_operand here)
 entry_at func (first ∷ labels) (one ∷ operands) (suc k) label operand all at_label at_operand =
-    entry_at func labels operands k label operand (both (entry_settles func first (value_in one)) (entries_settle func labels operands) all).1 at_label at_operand
+    entry_at func labels operands k label operand (and_parts (entry_settles func first (value_in one)) (entries_settle func labels operands) all).1 at_label at_operand
 
 unfoldable pub uses_settle : Function → Bool
 uses_settle func = blocks_settle func 0 func.blocks
@@ -210,12 +202,12 @@ value_settled func label value None from is same at = cc
 value_settled func label value (Some other) from is same at =
     let equal : other ≡ value = cc in rw (at, equal) at is
 
--- a function that passes the test has definite uses
+-- a function that all_passes the test has definite uses
 pub uses_settled : (func : Function) → uses_settle func ≡ true → UsesAreDefinite func
 uses_settled func all _ _ _ _ (by_line number place value inst stands plain uses) =
     let found = get_contained (values_used inst) value uses in
     settled func value number place
-    (passes (λ v. settles func v number place) (values_used inst) found.0 value (plain_settled func number place inst (stands_settled func number place inst all stands) plain) found.1)
+    (all_passes (λ v. settles func v number place) (values_used inst) found.0 value (plain_settled func number place inst (stands_settled func number place inst all stands) plain) found.1)
 uses_settled func all _ _ _ _ (by_entry number place entry value phi operand label from stands is at_label at_operand names at) =
     settled func value label.0 (length from.insts)
     (value_settled func label value (value_in operand) from

@@ -32,7 +32,10 @@ use Rattle.generated_source.specs.Statements.{GeneratedIsSource, GeneratedHasNoB
 use Rattle.generated_source.proofs.Lines.{module_of, Calls}
 use Rattle.generated_source.proofs.Names.{differ, names_distinct, all_distinct, absent, first_byte}
 use Rattle.generated_source.proofs.Functions.{IsSound, making_sound, looping_sound, first_sound, later_sound}
-use Rattle.generated_source.proofs.Main.{map_range_all, range_get, distinct_numbered, main_sound}
+use Rattle.generated_source.proofs.Main.{map_range_all, distinct_numbered, main_sound}
+use Rattle.list_laws.proofs.Ranges.{range_get}
+use Rattle.generated_runs.proofs.Chain.{drawn_below}
+use Rattle.generated_runs.proofs.Main.{function_there}
 
 -- ---- the functions of a module
 
@@ -41,11 +44,6 @@ functions seed size = map (function_at seed) (range_with_len 0 size)
 
 abbrev funcs_of : ℕ → ℕ → List Function
 funcs_of seed size = functions seed size ++ main_of size ∷ []
-
-function_there : (seed size place : ℕ) → place < size → slice_get (funcs_of seed size) place ≡ Some (function_at seed place)
-function_there seed size place less =
-    get_front (functions seed size) (main_of size ∷ []) place (function_at seed place)
-    (get_map (function_at seed) (range_with_len 0 size) place place (range_get 0 size place less ∙ ap (λ (n : ℕ). Some n) (omega arith)))
 
 count : (seed size : ℕ) → length (funcs_of seed size) ≡ size + 1
 count seed size = omega (arith, length-append (functions seed size) (main_of size ∷ []), length-map-range_with_len (function_at seed) 0 size)
@@ -67,10 +65,6 @@ body_sound seed size zero Merging constant few less low = first_sound (funcs_of 
 body_sound seed size (suc before) Merging constant few less low =
     later_sound (funcs_of seed size) (suc before) (omega arith) (short_name (suc before) (omega arith)) constant low before (calls_there seed size before (omega arith))
 body_sound seed size place Looping constant few less low = looping_sound (funcs_of seed size) place (omega arith) (short_name place (omega arith)) constant low
-
-drawn_below : (below state : ℕ) → 0 < below → drawn below state < below
-unfolding drawn
-drawn_below below state some = omega arith
 
 bound_low : (shape : Shape) → (0 < bound_of shape) × (bound_of shape ≤ 100)
 bound_low Making = (omega arith, omega arith)

@@ -29,10 +29,6 @@ has_type tys.Ptr cell is = ap type_of (let same : cell ≡ Ptr = cc in same)
 has_type tys.Void cell is = absurd (let bad : None ≡ Some cell = is in cc)
 has_type tys.Token cell is = absurd (let bad : None ≡ Some cell = is in cc)
 
-pub kind_known : (cell : Cell) → is_kind (kind_of cell) ≡ true
-kind_known I64 = refl
-kind_known Ptr = refl
-
 pub kind_cell : (n : ℕ) → is_kind n ≡ true → (cell : Cell) × (n ≡ kind_of cell)
 kind_cell zero is = (I64, refl)
 kind_cell (suc zero) is = (Ptr, refl)

@@ -40,12 +40,3 @@ front-none q p v same xs e = by (nat_lt (position_or_len q xs) (length xs)) refl
         ap (map v) (sym (take_all (position_or_len q xs) xs past)) ∙ front q p v same xs
 
 -- ---- one more element
-
-pub taken : {X : Type 0} (xs : List X) (i : ℕ) (x : X) → i < length xs → x ≡ get_or xs i x → take (i + 1) xs ≡ take i xs ++ x ∷ []
-taken xs i x below is = take_more xs i x below ∙ ap (λ y. take i xs ++ y ∷ []) (sym is)
-
--- what is made so far and what the rest makes
-pub rest-moved : {B : Type 0} (items more here rest left whole : List B) → more ≡ items ++ here → left ≡ here ++ rest
-    → items ++ left ≡ whole → more ++ rest ≡ whole
-rest-moved items more here rest left whole is next e =
-    ap (λ xs. xs ++ rest) is ∙ append_assoc items here rest ∙ ap (λ xs. items ++ xs) (sym next) ∙ e

@@ -10,9 +10,8 @@ use Rattle.ir_ast.specs.Lists.{Distinct}
 use Rattle.ir_lines.specs.Places.{place_in, number_of, number_in}
 use Rattle.ir_lines.specs.InBody.{Repeats}
 use Rattle.list_laws.proofs.Places
-use Rattle.name_chains.proofs.Places.{bytes_eq-same}
 pub use Rattle.list_laws.proofs.Places.{get_some, get_taken}
-pub use Rattle.list_laws.proofs.Contents.{contains_get, get_contained, contains_first, contains_later, contains_cons, contains_middle, contains_map}
+pub use Rattle.list_laws.proofs.Contents.{contains_get, get_contained, contains_first, contains_later, contains_cons, contains_middle, contains_map, same_bytes}
 
 pub position-cons : {X : Type 0} (p : X → Bool) (x : X) (xs : List X)
     → position p (x ∷ xs) ≡ cond (p x) (Some 0) (option_map suc (position p xs))
@@ -46,7 +45,7 @@ stands {X} f (x ∷ xs) name e = by (bytes_eq name (f x)) refl (stands f xs name
           ∙ ap (λ (b : Bool). cond b (Some 0) (option_map suc (place_in (map f xs) name))) is;
       there = refl;
       found = ap (λ (b : Bool). cond b (Some x) (find (λ y. bytes_eq name (f y)) xs)) is;
-      same = sym (bytes_eq-same name (f x) is);
+      same = sym (same_bytes name (f x) is);
     }
     by false is ih =
         let skip : find (λ y. bytes_eq name (f y)) (x ∷ xs) ≡ find (λ y. bytes_eq name (f y)) xs =

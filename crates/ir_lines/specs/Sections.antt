@@ -116,8 +116,8 @@ values_of func = values_before func func.body
 
 -- ---- blocks
 
+-- a block by its lines, with the line of its label, or that of the head where the first block has none
 pub record BlockLines : Type 0 where
-  -- the line of its label, or that of the head where the first block has none
   pub line : ℕ
   pub name : List ℕ
   pub lines : List Line

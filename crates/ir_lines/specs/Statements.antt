@@ -37,8 +37,8 @@ pub record Guarded : Type 0 where
   pub count : Literal
   pub passed : List Given
 
+-- what a line says; `%T = type { F, F, .. }` is a layout
 pub data Statement : Type 0 where
-  -- `%T = type { F, F, .. }`
   layout : (name : List ℕ) → (fields : List TypeWord) → Statement
   -- `declare R @name(A, A, ..)`
   declare : (answer : TypeWord) → (name : List ℕ) → (parameters : List Named) → Statement

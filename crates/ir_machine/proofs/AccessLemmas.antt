@@ -22,12 +22,13 @@ use Rattle.object_meaning.specs.States.{Frame}
 use Rattle.machine_meaning.specs.Machines.{Machine, Machinery, gone_from, gone_on}
 use Rattle.machine_meaning.specs.MachineSteps.{loading_word, storing_word, checking, stepped_word, passes}
 use Rattle.machine_meaning.specs.Words.{worded_operand}
-use Rattle.machine_frames.specs.Frames.{frame_of, is_statepoint}
+use Rattle.machine_frames.specs.Frames.{frame_of}
 use Rattle.machine_lines.specs.Lines.{line_of, lines_left}
 use Rattle.machine_frames.proofs.LineLemmas.{gone_call}
 use Rattle.ir_machine.specs.declared.executor.Executor.{Executor}
 use Rattle.ir_machine.specs.Executors.{seen, acts_at, calls_at}
 use Rattle.machine_lines.specs.Going.{still}
+use Rattle.ir_ast.specs.Ops.{is_statepoint}
 
 abbrev pub held : Executor → Instruction → ℕ → Datum
 held executor inst place = operand (map number executor.run.frame.registers.items) (map worded_operand inst.operands) place

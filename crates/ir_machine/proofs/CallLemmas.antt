@@ -20,7 +20,7 @@ use Rattle.object_meaning.specs.States.{Frame, State, Setting}
 use Rattle.machine_meaning.specs.Machines.{Machine, Machinery, lifted, then_on, address_behind, gone_from, gone_on}
 use Rattle.machine_meaning.specs.MachineTasks.{new_frame, pushed, started_machine}
 use Rattle.machine_meaning.specs.MachineSteps.{calls, machine_acts, returns, behind_step}
-use Rattle.ir_machine.proofs.StepLemmas.{out_of_steps, step_left}
+use Rattle.run_tasks.proofs.StepLemmas.{out_of_steps, step_left}
 
 -- ---- jumps
 

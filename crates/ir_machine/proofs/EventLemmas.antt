@@ -23,7 +23,8 @@ use Rattle.move_plan.specs.declared.plan_lines.PlanLine.{PlanLine}
 use Rattle.move_plan.specs.Plans.{flips, go, group}
 use Rattle.ir_machine.specs.declared.executor.Program.{Program}
 use Rattle.ir_machine.specs.Events.{or_lost, IsLost}
-use Rattle.ir_machine.proofs.TaskLemmas.{hole_walks, hole_again, lost_here, lost_there, set_twice}
+use Rattle.ir_machine.proofs.TaskLemmas.{hole_walks, hole_again, lost_here, lost_there}
+use Rattle.list_laws.proofs.Places.{set_twice}
 
 pub happen_is : (machinery : Machinery) (machine : Machine) (next : Machine → Effect Machine) (events : ℕ) (moves : List Moved) → events ≡ raised machine.state.events
     → moves ≡ moves_due machinery machine.heap events

@@ -8,32 +8,11 @@ use Rattle.frame_walk.specs.Walks.{frame_words}
 use Rattle.machine_meaning.specs.Machines.{Machine, Machinery}
 use Rattle.machine_meaning.specs.TrapLines.{deopt_places, pair_places, is_readable, frame_line, shown_place, lines_with, lines_at, lines_from, closing_of}
 use Rattle.ir_machine.specs.Answers.{IsUntrapped}
+use Rattle.runs_unseen.proofs.MapLaws.{or_nothing, either_nothing, with_nothing, at_nothing}
 
 -- what a map may have at each return address
 abbrev Quiet : Machinery → Type 0
 Quiet machinery = (address : ℕ) (one : FrameEntry) → machinery.found address ≡ Some one → deopt_places one ≡ []
-
-either_nothing : (b : Bool) (lines : List (List ℕ)) → lines ≡ [] → (if b then lines else []) ≡ []
-either_nothing true lines e = e
-either_nothing false lines e = refl
-
-or_nothing : (b : Bool) (lines : List (List ℕ)) → lines ≡ [] → (if b then [] else lines) ≡ []
-or_nothing true lines e = refl
-or_nothing false lines e = e
-
-with_nothing : (machinery : Machinery) (stands : List Stand) (number : ℕ) (stack : List ℕ) (below : ℕ → List ℕ → List (List ℕ)) (one : FrameEntry) (name : Option (List ℕ))
-    → deopt_places one ≡ [] → ((next : ℕ) (rest : List ℕ) → below next rest ≡ []) → lines_with machinery stands number stack below one name ≡ []
-with_nothing machinery stands number stack below one None bare rest = refl
-with_nothing machinery stands number stack below one (Some name) bare rest =
-    let next = slice_index stack (frame_words one) in let others = drop (frame_words one + 1) stack in
-    let shown = shown_place machinery stands (take (frame_words one) stack) (pairs_in (pair_places one)) in
-    ap (λ places. frame_line number name (map shown places) ++ below next others) bare ∙ rest next others
-
-at_nothing : (machinery : Machinery) (stands : List Stand) (number address : ℕ) (stack : List ℕ) (below : ℕ → List ℕ → List (List ℕ)) (found : Option FrameEntry)
-    → ((one : FrameEntry) → found ≡ Some one → deopt_places one ≡ []) → ((next : ℕ) (rest : List ℕ) → below next rest ≡ []) → lines_at machinery stands number address stack below found ≡ []
-at_nothing machinery stands number address stack below None bare rest = refl
-at_nothing machinery stands number address stack below (Some one) bare rest =
-    either_nothing (is_readable (length stack) one) _ (with_nothing machinery stands number stack below one (machinery.name_at address) (bare one refl) rest)
 
 from_nothing : (fuel : ℕ) (machinery : Machinery) (stands : List Stand) (number address : ℕ) (stack : List ℕ) → Quiet machinery → lines_from fuel machinery stands number address stack ≡ []
 from_nothing zero machinery stands number address stack quiet = refl

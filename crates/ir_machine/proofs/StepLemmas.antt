@@ -50,10 +50,3 @@ compute_acts machinery machine line rest op first second third answer plain one 
     ∙ ap (λ (d : Datum). computed [] op line.inst.ty (number first) (number second) d) three ∙ is))
 
 -- ---- steps
-
-pub out_of_steps : (setting : Setting) (state : State) (next : State → Effect State) → setting.bound ≤ state.steps → ends OutOfSteps state ≡ stepped setting state next
-out_of_steps setting state next le = let none = le-ltb state.steps setting.bound le in rw none refl
-
-pub step_left : (setting : Setting) (state : State) (next : State → Effect State) → state.steps < setting.bound
-    → next (record state { steps = state.steps + 1 }) ≡ stepped setting state next
-step_left setting state next lt = let some = lt-ltb state.steps setting.bound lt in rw some refl

@@ -19,29 +19,7 @@ use Rattle.machine_frames.specs.declared.tasks.Task.{Task}
 use Rattle.machine_frames.specs.Frames.{frame_of, below_of, frames_of}
 use Rattle.ir_machine.specs.Executors.{waiting, kept, without_words}
 use Rattle.ir_machine.specs.Events.{IsLost, before_walk}
-
--- a write that is written again
-pub set_twice : {X : Type 0} (xs : List X) (i : ℕ) (a b : X) → set (set xs i a) i b ≡ set xs i b
-set_twice [] i a b = refl
-set_twice (x ∷ xs) zero a b = refl
-set_twice (x ∷ xs) (suc i) a b = ap (λ rest. x ∷ rest) (set_twice xs i a b)
-
-pub set_again : {X : Type 0} (xs : List X) (i j : ℕ) (a b : X) → set (set (set xs i a) j b) i a ≡ set (set xs j b) i a
-set_again [] i j a b = refl
-set_again (x ∷ xs) zero zero a b = refl
-set_again (x ∷ xs) zero (suc j) a b = refl
-set_again (x ∷ xs) (suc i) zero a b = ap (λ rest. b ∷ rest) (set_twice xs i a a)
-set_again (x ∷ xs) (suc i) (suc j) a b = ap (λ rest. x ∷ rest) (set_again xs i j a b)
-
--- a task without frames that is set to have none
-pub set_none : {X : Type 0} (xs : List (Option X)) (i : ℕ) → unwrap_or (slice_get xs i) None ≡ None → set xs i None ≡ xs
-set_none [] i e = refl
-set_none {X = X} (x ∷ xs) zero e = ap (λ (first : Option X). first ∷ xs) (sym e)
-set_none (x ∷ xs) (suc i) e = ap (λ rest. x ∷ rest) (set_none xs i e)
-
-pub found_some : {X : Type 0} (x : X) (found : Option (Option X)) → unwrap_or found None ≡ Some x → found ≡ Some (Some x)
-found_some x None e = cc
-found_some x (Some found) e = ap (λ f. Some f) e
+use Rattle.list_laws.proofs.Places.{set_twice}
 
 pub waiting_at : (tasks : List (Option Task)) (task : ℕ) (found : Option (Option Task)) → slice_get tasks task ≡ found
     → slice_get (map waiting tasks) task ≡ option_map waiting found

@@ -9,8 +9,8 @@ ghost use Rattle.object_meaning.specs.Numbers.{width_of};
 ghost use Rattle.machine_meaning.specs.Machines.{Machine};
 ghost use Rattle.machine_meaning.specs.MachineSteps.{denied, stepped_word};
 ghost use Rattle.machine_lines.specs.Decoding.{decoded_of};
-ghost use Rattle.machine_frames.specs.Frames.{is_statepoint};
 ghost use Rattle.ir_machine.specs.Executors.{machinery, effect_of, DoesSo, acts_at, calls_at};
+ghost use Rattle.ir_ast.specs.Ops.{is_statepoint};
 
 use crate::executor::{Did, Executor, Program};
 use flat_code::width_of;

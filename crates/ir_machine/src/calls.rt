@@ -9,8 +9,8 @@ ghost use Rattle.machine_meaning.specs.Machines.{gone_on};
 ghost use Rattle.machine_meaning.specs.MachineTasks.{ended_machine, handed_machine};
 ghost use Rattle.machine_meaning.specs.Words.{worded_operand};
 ghost use Rattle.machine_lines.specs.Decoding.{decoded_of};
-ghost use Rattle.machine_frames.specs.Frames.{is_statepoint};
 ghost use Rattle.ir_machine.specs.Executors.{machinery, seen, DoesSo, acts_at, calls_at};
+ghost use Rattle.ir_ast.specs.Ops.{is_statepoint};
 
 use crate::executor::{Did, Executor, Program};
 use flat_code::width_of;

@@ -40,23 +40,17 @@ use Rattle.flat_code.specs.Edges.{chosen, copy_of, block_lines, phis_in, IsEdge}
 use Rattle.flat_code.specs.Flats.{operand_at}
 use Rattle.flat_code.specs.Spots.{insts_at, first_at}
 use Rattle.flat_code.proofs.PhiLemmas.{phi_rest}
-use Rattle.flat_code.proofs.StraightLemmas.{passes_here, passes_more}
+use Rattle.flat_code.proofs.StraightLemmas.{passes_here, passes_more, value_at}
 use Rattle.tool_io.specs.Counts.{raised}
 use Rattle.ir_meaning.specs.declared.machine.Did.TheVariants.{GoesOn, Prints, Ends}
 use Rattle.waiting_frames.specs.Frames.{Seen, front_frame, exit_frame}
 use Rattle.ir_meaning.specs.Stacks.{Frames, word, passed_frame, entered_frames, move_of, moved, arrived_frames}
 use Rattle.ir_meaning.specs.Machines.{Rest, state_from, exit_from, state_with, task_frames, waiting_frames, today, StandsAt, LeadsAlong, SwitchesAt, Turned}
-use Rattle.ir_meaning.proofs.MachineLemmas.{turned_goes, turned_prints, turned_ends, out_of_steps, step_left, stands_block, passed_at, exit_step, call_step}
+use Rattle.ir_meaning.proofs.MachineLemmas.{turned_goes, turned_prints, turned_ends, stands_block, passed_at, exit_step, call_step}
 use Rattle.ir_meaning.proofs.WordLemmas.{word_is, words_are, write_of, moves_are}
+use Rattle.run_tasks.proofs.StepLemmas.{out_of_steps, step_left}
 
 -- ---- jumps
-
-value_at : (registers : List Datum) (operands : List Operand) (place : ℕ) → value registers (operand_at operands place) ≡ operand registers operands place
-value_at registers operands place =
-    elim (slice_get operands place) as (λ found. value registers (unwrap_or found (Int 0)) ≡ option_map_or (value registers) found nothing) [
-      | None ↦ refl
-      | Some one ↦ refl
-    ]
 
 chosen_is : (from : ℕ) (registers : List Datum) (phi : Instruction) → value registers (chosen from phi) ≡ incoming from registers phi
 chosen_is from registers phi =
@@ -118,14 +112,6 @@ jump_lost code plan bound frames others edge leads left none =
       effect = sym (step_at_end setting middle over);
       after = record { func = refl; below = refl; steps = refl; events = refl };
     }
-
-pub jump_out : (code : FlatModule) (plan : List PlanLine) (bound : ℕ) (frames : Frames) (others : Rest) (edge : Edge)
-    → LeadsAlong code frames (today code plan bound) (exit_from code frames others) edge → bound ≤ others.steps
-    → Turned (today code plan bound) (exit_from code frames others) (Ends OutOfSteps) (state_from code frames others)
-jump_out code plan bound frames others edge leads over =
-    let setting = today code plan bound in let state = exit_from code frames others in
-    turned_ends setting state state (state_from code frames others) OutOfSteps
-    (out_of_steps setting state (jumped setting edge.block) over ∙ sym leads.step_is) (record { func = refl; below = refl; steps = refl; events = refl })
 
 -- an edge that the exit's line takes
 pub leads_along : (code : FlatModule) (plan : List PlanLine) (bound : ℕ) (frames : Frames) (others : Rest) (segment : Segment) (exit : Exit)

@@ -37,6 +37,7 @@ use Rattle.waiting_frames.specs.Frames.{front_frame, exit_frame}
 use Rattle.ir_meaning.specs.Stacks.{Frames, passed_frame}
 use Rattle.ir_meaning.specs.Machines.{Rest, Whole, state_from, exit_from, state_with, waiting_frames, switched_so, gone_to, today, StandsAt, Turned, Does}
 use Rattle.ir_meaning.proofs.WordLemmas.{put_is}
+use Rattle.list_laws.proofs.Places.{set_none}
 
 -- ---- turns
 
@@ -66,13 +67,6 @@ turned_behind setting start middle state did passes turned = record {
 }
 
 -- ---- steps that count
-
-pub out_of_steps : (setting : Setting) (state : State) (next : State → Effect State) → setting.bound ≤ state.steps → ends OutOfSteps state ≡ stepped setting state next
-out_of_steps setting state next le = let none = le-ltb state.steps setting.bound le in rw none refl
-
-pub step_left : (setting : Setting) (state : State) (next : State → Effect State) → state.steps < setting.bound
-    → next (record state { steps = state.steps + 1 }) ≡ stepped setting state next
-step_left setting state next lt = let some = lt-ltb state.steps setting.bound lt in rw some refl
 
 -- ---- the lines at an exit
 
@@ -180,33 +174,10 @@ switched_is code frames others to (Some (Some next)) is =
     ∙ ap (λ (tasks : List (List Frame)). set tasks to []) (map-set (waiting_frames code) others.tasks others.task (Some frames)))
     ∙ ap (switched_to (exit_from code frames others) to) (sym (waiting_at code others.tasks to (Some (Some next)) is))
 
--- a write that is written again
-pub set_again : {X : Type 0} (xs : List X) (i j : ℕ) (a b : X) → set (set (set xs i a) j b) i a ≡ set (set xs j b) i a
-set_again [] i j a b = refl
-set_again (x ∷ xs) zero zero a b = refl
-set_again (x ∷ xs) zero (suc j) a b = refl
-set_again (x ∷ xs) (suc i) zero a b = ap (λ rest. b ∷ rest) (set_twice xs i a)
-  where
-    set_twice : {X : Type 0} (xs : List X) (i : ℕ) (a : X) → set (set xs i a) i a ≡ set xs i a
-    set_twice [] i a = refl
-    set_twice (x ∷ xs) zero a = refl
-    set_twice (x ∷ xs) (suc i) a = ap (λ rest. x ∷ rest) (set_twice xs i a)
-set_again (x ∷ xs) (suc i) (suc j) a b = ap (λ rest. x ∷ rest) (set_again xs i j a b)
-
--- a task without frames that is set to have none
-pub set_none : {X : Type 0} (xs : List (Option X)) (i : ℕ) → unwrap_or (slice_get xs i) None ≡ None → set xs i None ≡ xs
-set_none [] i e = refl
-set_none {X = X} (x ∷ xs) zero e = ap (λ (first : Option X). first ∷ xs) (sym e)
-set_none (x ∷ xs) (suc i) e = ap (λ rest. x ∷ rest) (set_none xs i e)
-
 pub found_none : (whole : Whole) (to : ℕ) (found : Option (Option Frames)) → unwrap_or found None ≡ None → switched_so whole to found ≡ whole
 found_none whole to None e = refl
 found_none whole to (Some None) e = refl
 found_none whole to (Some (Some next)) e = cc
-
-pub found_some : {X : Type 0} (x : X) (found : Option (Option X)) → unwrap_or found None ≡ Some x → found ≡ Some (Some x)
-found_some x None e = cc
-found_some x (Some found) e = ap (λ f. Some f) e
 
 -- a `go` line
 pub gone_is : (code : FlatModule) (whole : Whole) (to : Option ℕ)

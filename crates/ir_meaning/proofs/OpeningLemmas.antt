@@ -21,19 +21,6 @@ use Rattle.waiting_frames.specs.Frames.{Seen}
 use Rattle.ir_meaning.specs.Machines.{Rest, state_of, state_from, today, IsOpened}
 use Rattle.ir_meaning.proofs.CallLemmas.{zeros_are, front_is}
 
-prefix_map : {A B : Type 0} (test : B → Bool) (f : A → B) (xs : List A) → prefix_len test (map f xs) ≡ prefix_len (λ x. test (f x)) xs
-prefix_map test f [] = refl
-prefix_map test f (x ∷ xs) = ap (λ n. cond (test (f x)) (1 + n) 0) (prefix_map test f xs)
-
-position_map : {A B : Type 0} (test : B → Bool) (f : A → B) (xs : List A) → position test (map f xs) ≡ position (λ x. test (f x)) xs
-position_map test f xs = rw (prefix_map (λ y. not (test y)) f xs, length-map xs f) refl
-
-pub main_is : (content : ModuleContent) (funcs : List LinedFunction) → map content_of funcs ≡ content.funcs
-    → main_of content ≡ unwrap_or (position (λ func. bytes_eq func.content.name (codes "main")) funcs) 0
-main_is content funcs e =
-    ap (λ (all : List Function). unwrap_or (position (λ func. bytes_eq func.name (codes "main")) all) 0) (sym e)
-    ∙ ap (λ found. unwrap_or found 0) (position_map (λ func. bytes_eq func.name (codes "main")) content_of funcs)
-
 pub opening_is : (code : FlatModule) (plan : List PlanLine) (bound : ℕ) (input : List ℤ) (machine : Machine) → IsOpened code input machine
     → unprinted (state_of code machine) ≡ opening (today code plan bound) input
 opening_is code plan bound input machine opened =

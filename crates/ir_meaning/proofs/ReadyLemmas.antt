@@ -15,18 +15,13 @@ use Rattle.object_meaning.specs.Lines.{insts_in}
 use Rattle.flat_code.specs.Codes.{IsReadyModule}
 use Rattle.flat_code.specs.Spots.{IsReady, AllReady}
 use Rattle.object_meaning.proofs.ListLemmas.{take_front, drop_front}
-
-fronts : {X : Type 0} (P : X → Type 0) (xs ys : List X) → All P (xs ++ ys) → All P xs
-fronts P xs ys all = All-same P xs (take (length xs) (xs ++ ys)) (sym (take_front xs ys)) (All-take P (length xs) (xs ++ ys) all)
-
-backs : {X : Type 0} (P : X → Type 0) (xs ys : List X) → All P (xs ++ ys) → All P ys
-backs P xs ys all = All-same P ys (drop (length xs) (xs ++ ys)) (sym (drop_front xs ys)) (All-drop P (length xs) (xs ++ ys) all)
+use Rattle.list_laws.proofs.Contents.{all_front, all_back}
 
 block_ready : (blocks : List BasicBlock) → AllReady (instructions_of blocks) → (number : ℕ)
     → AllReady (option_map_or (λ block. block.insts) (slice_get blocks number) [])
 block_ready [] all number = All-nil IsReady
-block_ready (block ∷ blocks) all zero = fronts IsReady block.insts (instructions_of blocks) all
-block_ready (block ∷ blocks) all (suc number) = block_ready blocks (backs IsReady block.insts (instructions_of blocks) all) number
+block_ready (block ∷ blocks) all zero = all_front IsReady block.insts (instructions_of blocks) all
+block_ready (block ∷ blocks) all (suc number) = block_ready blocks (all_back IsReady block.insts (instructions_of blocks) all) number
 
 -- what a function's lines are
 abbrev FunctionIsReady : Function → Type 0

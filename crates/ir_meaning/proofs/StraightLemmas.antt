@@ -32,11 +32,6 @@ pub stores_ok : (held : Held) (to : Option ℕ) (word : Datum) (found : Result P
 stores_ok held to word (Ok place) objects e = ap (λ (os : List Object). let r : Result Held Trap = Ok (record { registers = put to nothing held.registers; objects = os }) in r) cc
 stores_ok held to word (Err trap) objects e = cc
 
-pub stores_err : (held : Held) (to : Option ℕ) (word : Datum) (found : Result Place Trap) (trap : Trap)
-    → ◌≡◌ {A = Result (List Object) Trap} (Err trap) (store_to held.objects word found) → stores held to word found ≡ Err trap
-stores_err held to word (Ok place) trap e = cc
-stores_err held to word (Err other) trap e = cc
-
 pub acts_done : (layouts : List ObjectLayout) (held : Held) (to : Option ℕ) (width : ℕ) (a b c : Datum) (action : Action)
     → ((cell : Cell) → action ≡ Load cell → ⊥) → ((cell : Cell) → action ≡ Store cell → ⊥) → (one : Datum) → ◌≡◌ {A = Result Datum Trap} (Ok one) (acted action width a b c)
     → acts_on layouts held to width a b c action ≡ Ok (record held { registers = put to one held.registers })

@@ -15,14 +15,8 @@ use Rattle.piece_writer.specs.Lists.{led, joined}
 use Rattle.print_tables.proofs.AnyLemmas.{list_any-map}
 use Rattle.print_tables.specs.Externals.{calls}
 use Rattle.ir_printer.specs.Declarations.{declaration_if_called, fixed_externals, integer_widths, declarations_text, has_top}
-
-list_any-append : {A : Type 0} (test : A → Bool) (xs ys : List A) → list_any test (xs ++ ys) ≡ (list_any test xs || list_any test ys)
-list_any-append test [] ys = refl
-list_any-append test (x ∷ xs) ys = (ap (λ rest. test x || rest) (list_any-append test xs ys)) ∙ or-or (test x) _ _
-  where
-    or-or : (a b c : Bool) → (a || (b || c)) ≡ ((a || b) || c)
-    or-or true b c = refl
-    or-or false b c = refl
+use Rattle.list_laws.proofs.Booleans.{or_false}
+use Rattle.list_laws.proofs.Tests.{any_append}
 
 led-map : {A : Type 0} (text : A → List ℕ) (xs : List A) → led [] (map text xs) ≡ flat_map text xs
 led-map text [] = refl
@@ -51,12 +45,8 @@ unfolding declarations_text
 declarations_text-parts layouts funcs =
     flat_map-parts (declaration_if_called layouts funcs) (range_with_len 0 (length layouts)) integer_widths fixed_externals
 
-or-false : (a : Bool) → (a || false) ≡ a
-or-false true = refl
-or-false false = refl
-
 list_any-parts : (test : External → Bool) (widths : List ℕ) (fixed : List External) → list_any test (fixed ++ (map ResultOf widths ++ ResultPointer ∷ [])) ≡ (list_any test fixed || (list_any (λ width. test (ResultOf width)) widths || test ResultPointer))
-list_any-parts test widths fixed = simp (list_any-append, list_any-map, or-false)
+list_any-parts test widths fixed = simp (any_append, list_any-map, or_false)
 
 pub has_top-empty : (layouts : List ObjectLayout) (funcs : List Function) → true ≡ (length layouts == 0) → has_top layouts funcs ≡
     (list_any (calls funcs) fixed_externals || (list_any (λ width. calls funcs (ResultOf width)) integer_widths || calls funcs ResultPointer))

@@ -11,6 +11,7 @@ use Rattle.ir_reader.specs.Quantities.{within_limits}
 use Rattle.ir_reader.specs.Text.{Fault, syntax_fault, limit_fault, Numbered}
 use Rattle.ir_reader.specs.Judged.{Placed, unread, empty, says, placed, before, said_behind, said_in, said_of, ReadTo, OverLimit, Unread, Unclosed, is_kept, Whole, Judged}
 use Rattle.ir_reader.proofs.Judging.{prefixed, then_said, said_in-append}
+use Rattle.list_laws.proofs.Contents.{first_same, rest_same}
 
 -- ---- what lines say
 
@@ -98,19 +99,13 @@ stopped_there text lines mid number all end s r =
 abbrev Splits : {A : Type 0} → List A → A → List A → A → Type 0
 Splits {A} front x other y = ((front ≡ other) × (x ≡ y)) ⊎ (((mid : List A) × (other ≡ front ++ x ∷ mid)) ⊎ ((mid : List A) × (front ≡ other ++ y ∷ mid)))
 
-head_is : {A : Type 0} (x y : A) (xs ys : List A) → x ∷ xs ≡ y ∷ ys → x ≡ y
-head_is x y xs ys e = cc
-
-tail_is : {A : Type 0} (x y : A) (xs ys : List A) → x ∷ xs ≡ y ∷ ys → xs ≡ ys
-tail_is x y xs ys e = cc
-
 splits : {A : Type 0} (front : List A) (x : A) (back other : List A) (y : A) (rest : List A) → front ++ x ∷ back ≡ other ++ y ∷ rest → Splits front x other y
-splits [] x back [] y rest e = inl (refl, head_is x y back rest e)
-splits [] x back (o ∷ other) y rest e = inr (inl (other, rw (head_is x o back (other ++ y ∷ rest) e) refl))
-splits (f ∷ front) x back [] y rest e = inr (inr (front, rw (head_is f y (front ++ x ∷ back) rest e) refl))
+splits [] x back [] y rest e = inl (refl, first_same x y back rest e)
+splits [] x back (o ∷ other) y rest e = inr (inl (other, rw (first_same x o back (other ++ y ∷ rest) e) refl))
+splits (f ∷ front) x back [] y rest e = inr (inr (front, rw (first_same f y (front ++ x ∷ back) rest e) refl))
 splits (f ∷ front) x back (o ∷ other) y rest e =
-    let same : f ≡ o = head_is f o (front ++ x ∷ back) (other ++ y ∷ rest) e in
-    elim (splits front x back other y rest (tail_is f o (front ++ x ∷ back) (other ++ y ∷ rest) e)) [
+    let same : f ≡ o = first_same f o (front ++ x ∷ back) (other ++ y ∷ rest) e in
+    elim (splits front x back other y rest (rest_same f o (front ++ x ∷ back) (other ++ y ∷ rest) e)) [
       | inl here ↦ inl (rw (same, here.0) refl, here.1)
       | inr (inl later) ↦ inr (inl (later.0, rw (same, later.1) refl))
       | inr (inr sooner) ↦ inr (inr (sooner.0, rw (same, sooner.1) refl))

@@ -30,6 +30,7 @@ use Rattle.ir_reader.specs.Text.{Outcome, no_reading, over_limit, nothing, said,
 use Rattle.ir_reader.specs.Judged.{Placed, unread, empty, says, placed_said, placed_formed, placed_by_form, placed_tokens, placed_label, placed_labelled, placed, before, said_behind, said_in, said_of, ReadTo, OverLimit, number_behind, is_kept, Judged}
 use Rattle.ir_reader.proofs.Counting.{IsCounted, fits-are, counted-kept, counted-dropped, counted-none, nothing-in}
 use Rattle.ir_reader.proofs.LineByLine.{with_lines, with_none, with_one}
+use Rattle.std.proofs.lemmas.Bool.{and_parts, and_left}
 
 -- ---- one line, with the limits
 
@@ -42,14 +43,9 @@ if_limited : (s : State) (b : Bool) (x : Outcome) (p : Placed) → x ≡ limited
 if_limited s true x p e = refl
 if_limited s false x p e = e
 
-both : (b c : Bool) → (b && c) ≡ true → (b ≡ true) × (c ≡ true)
-both true true e = (refl, refl)
-both true false e = absurd cc
-both false c e = absurd cc
-
-label_fits : (c : Counts) → counts_fit c ≡ true → counts_fit (counted kinds.Nothing c) ≡ true
+pub label_fits : (c : Counts) → counts_fit c ≡ true → counts_fit (counted kinds.Nothing c) ≡ true
 label_fits c e =
-    ap (λ (x : Bool). x && true) (both _ _ e).0
+    ap (λ (x : Bool). x && true) (and_parts _ _ e).0
 
 found-is : (s : State) (form : Form) (next : Place) (found : Found (List Item))
     → said_by s form next (ended (after found (λ items rest. Some (of_form form items, rest)))) ≡ limited s (placed_said next (ended (after found (λ items rest. Some (of_form form items, rest)))))
@@ -212,7 +208,7 @@ all_fit text found what q each quantities =
     and_true false = refl
 
 each_fits : (text : TextForm) (found : List Said) → within_limits text found ≡ true → list_all said_fits found ≡ true
-each_fits text found e = (both (list_all said_fits found) (quantities_fit text found) e).0
+each_fits text found e = (and_parts (list_all said_fits found) (quantities_fit text found) e).0
 
 -- ---- the place of what is dropped, and of a relocate
 
@@ -412,10 +408,6 @@ unnoted : (what : Said) (passed : Bool) (next : Place) (p : Placed) → p ≡ sa
 unnoted what true next p is fits = absurd (let wrong : false ≡ true = fits in cc)
 unnoted what false next p is fits = (is, fits)
 
-and_false : (b c : Bool) → b ≡ false → (b && c) ≡ false
-and_false false c e = refl
-and_false true c e = absurd (let wrong : true ≡ false = e in cc)
-
 at_line : (lines : List NumberedLine) (l : NumberedLine) (ls : List NumberedLine) → Rest lines ls → Rest lines (l ∷ ls)
 unfolding Rest readings
 at_line lines l ls rest s front found number r e = rw (outcome-is s l.bytes r.fits) (by (placed s.form s.place l.bytes) refl)
@@ -434,12 +426,12 @@ at_line lines l ls rest s front found number r e = rw (outcome-is s l.bytes r.fi
         (rest s (front ++ l ∷ []) (found ++ record { line = l.number; said = what } ∷ []) (l.number + 1) (dropped_line s front l found number what next r u.0 is_dropped u.1) (on lines front ls l e))
     dropped what passed next is is_dropped false misfits =
         over_at s lines front ls l found number what passed next r e is
-        (over_limit_by s found what passed (quantities_fit s.form (map said_of found ++ what ∷ [])) front number r refl (and_false (line_fits what passed) _ misfits))
+        (over_limit_by s found what passed (quantities_fit s.form (map said_of found ++ what ∷ [])) front number r refl (and_left (line_fits what passed) _ misfits))
 
     kept : (what : Said) (passed : Bool) (next : Place) → placed s.form s.place l.bytes ≡ says what passed next → has_form is_dropped_form what ≡ false
         → (b : Bool) → (line_fits what passed && counts_fit (next_state s next what).counts) ≡ b → Comes (if b then said what (next_state s next what) else over_limit)
     kept what passed next is is_kept_form true fits =
-        let h = both (line_fits what passed) (counts_fit (next_state s next what).counts) fits in
+        let h = and_parts (line_fits what passed) (counts_fit (next_state s next what).counts) fits in
         let u = unnoted what passed next (placed s.form s.place l.bytes) is h.0 in
         rw (with_one (filter is_kept found) (record { line = l.number; said = what }) (more (next_state s next what)))
         (subst (λ (front : List Numbered). Judged s.form lines (with_lines front (more (next_state s next what)))) (kept_one found (record { line = l.number; said = what }) is_kept_form)

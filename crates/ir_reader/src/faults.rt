@@ -1,3 +1,5 @@
+//! Why a text is not read, by its line.
+
 ghost use Rattle.std.specs.Prelude.{◌≡◌};
 
 use line_parts::Stop;

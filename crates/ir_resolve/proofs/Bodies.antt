@@ -15,6 +15,7 @@ use Rattle.ir_lines.specs.Statements.{Line, Statement, label, switch}
 use Rattle.ir_lines.specs.Sections.{Definition, BlockLines, is_label, label_said, until_label, block_at, labelled_blocks, first_block, blocks_of, count_numbered, is_case, cases_of}
 use Rattle.ir_lines.specs.Modules.{Known, with_line, instruction, instruction_said, instructions_of, block_of, function_of, operand_of, label_of, case_value, case_label}
 use Rattle.ir_resolve.specs.Resolved.{Spot, case_lines, spot_said, spots_of}
+use Rattle.list_laws.proofs.Places.{map_map}
 
 -- ---- up to a label
 
@@ -110,13 +111,9 @@ spots-lined known (l ∷ ls) = by (instruction_said known ls l.says) (spots-line
     by None ih = ih
     by (Some inst) ih = ap (λ (xs : List (ℕ × Instruction)). (l.number, inst) ∷ xs) ih
 
-map-map : {A B C : Type 0} (f : B → C) (g : A → B) (xs : List A) → map f (map g xs) ≡ map (λ x. f (g x)) xs
-map-map f g [] = refl
-map-map {A} {B} {C} f g (x ∷ xs) = ap (λ (ys : List C). f (g x) ∷ ys) (map-map f g xs)
-
 pub function_insts : (known : Known) (func : Definition) → funcs.instructions_of (function_of known func).blocks ≡ map (λ (spot : Spot). spot.inst) (spots_of known func.body)
 function_insts known func =
     flat_map-map (λ (block : BasicBlock). block.insts) (block_of known) (blocks_of func)
     ∙ mapped_flat (λ (one : ℕ × Instruction). one.1) (λ (b : BlockLines). instructions_of known b.lines) (blocks_of func)
     ∙ ap (map (λ (one : ℕ × Instruction). one.1)) (body_lined known func func.body ∙ spots-lined known func.body)
-    ∙ map-map (λ (one : ℕ × Instruction). one.1) (λ (spot : Spot). (spot.line, spot.inst)) (spots_of known func.body)
+    ∙ map_map (λ (one : ℕ × Instruction). one.1) (λ (spot : Spot). (spot.line, spot.inst)) (spots_of known func.body)

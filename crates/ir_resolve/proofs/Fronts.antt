@@ -13,7 +13,8 @@ use Rattle.ir_lines.specs.Sections.{Definition, arguments_named, result_named, v
 use Rattle.ir_lines.specs.Modules.{Known, known_of, argument_of, instruction_said}
 use Rattle.ir_resolve.specs.Resolved.{Spot, case_lines, spot_said, spots_of}
 use Rattle.ir_resolve.proofs.Bodies.{function_insts}
-use Rattle.ir_resolve.proofs.Values.{made_of, has_result, results, take_front}
+use Rattle.ir_resolve.proofs.Values.{made_of, has_result, results}
+use Rattle.list_laws.proofs.Places.{take_front_of}
 
 -- the instruction of a line with those behind it, where it has one
 abbrev pub said_at : Known → Line → List Line → Option Instruction
@@ -128,6 +129,6 @@ number-at lines func before rest whole =
     let is = front known before rest in
     let args = arguments_named func.line [] func.arguments in
     let taken : take (length is) (instructions_of (made_of lines func).blocks) ≡ is =
-    ap (take (length is)) (insts_split lines func before rest whole) ∙ take_front is (insts known rest) in
+    ap (take (length is)) (insts_split lines func before rest whole) ∙ take_front_of is (insts known rest) in
     ap (λ (xs : List Instruction). length (map argument_of args) + length (filter has_result xs)) taken
     ∙ (let count = results-front known before rest in omega (arith, count, length-map args argument_of, length-append args (results before)))

@@ -6,8 +6,8 @@ use Rattle.std.specs.Str.{bytes_eq}
 use Rattle.std.proofs.lemmas.List.{length-map}
 use Rattle.std.proofs.lemmas.Option.{same_Some}
 use Rattle.std.proofs.lemmas.Bool.Decides.{Decides-eqb}
-use Rattle.name_chains.proofs.Places.{bytes_eq-same, bytes_eq-self}
-use Rattle.list_laws.proofs.Places.{get_past, get_middle}
+use Rattle.name_chains.proofs.Places.{bytes_eq-self}
+use Rattle.list_laws.proofs.Places.{get_past, get_middle, take_front_of}
 use Rattle.ir_ast.specs.declared.ops.Operand.{Operand}
 use Rattle.ir_ast.specs.declared.ops.Op.{Op}
 use Rattle.ir_ast.specs.declared.ops.Op.TheVariants as ops
@@ -30,10 +30,13 @@ use Rattle.ir_lines.specs.Modules.{Known, known_of, type_of, given_type, passed_
 use Rattle.ir_lines.specs.Faults.GroupShape.{Group, is_part}
 use Rattle.ir_lines.specs.TextLines.{place_behind, behind_instruction}
 use Rattle.ir_lines.specs.ReadLines.{is_instruction}
-use Rattle.ir_resolve.proofs.Booleans.{never, and-left, and-right, both}
-use Rattle.ir_resolve.proofs.Values.{place_split, number_place, names-split, take_front, made_of, names_of, results}
+use Rattle.ir_resolve.proofs.Booleans.{never}
+use Rattle.ir_resolve.proofs.Values.{place_split, number_place, names-split, made_of, names_of, results}
 use Rattle.ir_resolve.proofs.Fronts.{insts, front, front-append, front_at, insts_split, number-at, insts_said}
 use Rattle.ir_resolve.proofs.Standing.{StandsIn, after}
+use Rattle.list_laws.proofs.Booleans.{first_true, second_true}
+use Rattle.std.proofs.lemmas.Bool.{and_from}
+use Rattle.list_laws.proofs.Contents.{same_bytes}
 
 abbrev pub are_parts : List ℕ → List Line → Bool
 are_parts token ls = list_all (λ (l : Line). is_part token l.says) ls
@@ -56,7 +59,7 @@ record PartSaid (known : Known) (token : List ℕ) (said : Option Instruction) :
 
 same_number : (known : Known) (token other : List ℕ) → bytes_eq token other ≡ true → (number_in known.values other == number_in known.values token) ≡ true
 same_number known token other e =
-    subst (λ (x : List ℕ). (number_in known.values x == number_in known.values token) ≡ true) (bytes_eq-same token other e)
+    subst (λ (x : List ℕ). (number_in known.values x == number_in known.values token) ≡ true) (same_bytes token other e)
     ((Decides-eqb (number_in known.values token) (number_in known.values token)).1 refl)
 
 part_said : (known : Known) (token : List ℕ) (behind : List Line) (s : Statement) → is_part token s ≡ true → PartSaid known token (instruction_said known behind s)
@@ -156,8 +159,8 @@ parts_made : (known : Known) (token : List ℕ) (parts rest : List Line) → are
     → AreParts (number_in known.values token) (front known parts rest) × (length (front known parts rest) ≡ length parts)
 parts_made known token [] rest e = (tt, refl)
 parts_made known token (l ∷ ls) rest e =
-    let p = part_said known token (ls ++ rest) l.says (and-left (is_part token l.says) (are_parts token ls) e) in
-    let more = parts_made known token ls rest (and-right (is_part token l.says) (are_parts token ls) e) in (
+    let p = part_said known token (ls ++ rest) l.says (first_true (is_part token l.says) (are_parts token ls) e) in
+    let more = parts_made known token ls rest (second_true (is_part token l.says) (are_parts token ls) e) in (
       subst (λ (o : Option Instruction). AreParts (number_in known.values token) (insts_said o ++ front known ls rest)) (sym p.is) (p.part, more.0),
       ap (λ (o : Option Instruction). length (insts_said o ++ front known ls rest)) p.is ∙ ap suc more.1,
     )
@@ -182,7 +185,7 @@ parts_lost known token few (l ∷ ls) rest stand all =
     let line = subst (λ (o : Option Instruction). IfSome o (λ inst. is_part_made (number_in known.values token) inst ≡ true → IsPartLine known (number_in known.values token) l.says))
     says.1 (part_line known (number_in known.values token) (ls ++ rest) l.says) own.0 in
     let block : next ≡ places.Block = same_Some next places.Block (sym stand.1.is ∙ line.goes) in
-    both (is_part token l.says) (are_parts token ls)
+    and_from (is_part token l.says) (are_parts token ls)
     (subst (λ (name : List ℕ). is_part name l.says ≡ true) (same_name known.values line.name token line.numbered few) line.part)
     (parts_lost known token few ls rest (subst (λ (p : Place). StandsIn p (ls ++ rest)) block stand.1.more) own.1)
 
@@ -246,7 +249,7 @@ group_said lines func few stand before rest whole token known_token group =
     (sym (get_middle vb said.result (names_of (results more)))
     ∙ ap (slice_get (vb ++ said.result ∷ names_of (results more))) (sym numbered) ∙ ap (λ (ns : List (List ℕ)). slice_get ns number) (sym values) ∙ place.0) in
     let taken : take number known.values ≡ vb = ap (take number) values ∙ ap (λ (n : ℕ). take n (vb ++ said.result ∷ names_of (results more))) numbered
-    ∙ take_front vb (said.result ∷ names_of (results more)) in
+    ∙ take_front_of vb (said.result ∷ names_of (results more)) in
     let is : front known before rest ≡ E ++ group.statepoint ∷ P =
     ap (λ (xs : List Line). front known xs rest) at.whole ∙ front-append known at.earlier (at.line ∷ at.later) rest
     ∙ ap (λ (o : Option Instruction). E ++ (insts_said o ++ P)) at.said in

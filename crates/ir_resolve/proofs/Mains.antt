@@ -18,7 +18,8 @@ use Rattle.ir_lines.specs.Statements.{Line}
 use Rattle.ir_lines.specs.Sections.{Definition, definitions_of, arguments_named}
 use Rattle.ir_lines.specs.Modules.{known_of, type_of, argument_of, function_of, module_of}
 use Rattle.ir_lines.specs.Faults.NoMain.{NoMain, is_main, takes_nothing, is_status}
-use Rattle.ir_resolve.proofs.Booleans.{true-false, and-left, and-right, both}
+use Rattle.list_laws.proofs.Booleans.{true_and_false, first_true, second_true}
+use Rattle.std.proofs.lemmas.Bool.{and_from}
 
 abbrev is_named : Definition → Bool
 is_named func = bytes_eq func.name (codes "main")
@@ -59,7 +60,7 @@ main_in (d ∷ ds) e = by (is_named d) refl (main_in ds)
           main = more.main;
           later = more.later;
           whole = ap (λ (xs : List Definition). d ∷ xs) more.whole;
-          first = ((λ same. true-false (is_named d) ((bytes_eq-Decides d.name (codes "main")).1 same) is), more.first);
+          first = ((λ same. true_and_false (is_named d) ((bytes_eq-Decides d.name (codes "main")).1 same) is), more.first);
           name = more.name;
           found = skip ∙ more.found;
         }
@@ -95,8 +96,8 @@ has_main form lines is =
       whole = ap (map (made lines)) m.whole ∙ map-append (made lines) m.earlier (m.main ∷ m.later);
       first = All-from_recursion (λ (func : Function). func.name ≢ codes "main") (map (made lines) m.earlier) (names_made lines m.earlier m.first);
       name = m.name;
-      args = no_arguments m.main.line m.main.arguments (and-left (takes_nothing m.main.arguments) (is_status m.main.answer) right);
-      answer = status m.main.answer (and-right (takes_nothing m.main.arguments) (is_status m.main.answer) right);
+      args = no_arguments m.main.line m.main.arguments (first_true (takes_nothing m.main.arguments) (is_status m.main.answer) right);
+      answer = status m.main.answer (second_true (takes_nothing m.main.arguments) (is_status m.main.answer) right);
     }
 
 -- ---- from the module
@@ -132,7 +133,7 @@ found_main lines (d ∷ ds) [] main later whole first name args answer =
     let same : made lines d ≡ main = cc in
     let named : is_named d ≡ true = (bytes_eq-Decides d.name (codes "main")).1 (ap (λ (f : Function). f.name) same ∙ name) in
     ap (λ (b : Bool). is_main (cond b (Some d) (find is_named ds))) named
-    ∙ both (takes_nothing d.arguments) (is_status d.answer) (nothing d.line d.arguments (ap (λ (f : Function). f.args) same ∙ args))
+    ∙ and_from (takes_nothing d.arguments) (is_status d.answer) (nothing d.line d.arguments (ap (λ (f : Function). f.args) same ∙ args))
     (answers d.answer (by same answer))
   where
     by : made lines d ≡ main → (main.answer ≡ tys.Int 32) ⊎ (main.answer ≡ tys.Int 64) → (type_of d.answer ≡ tys.Int 32) ⊎ (type_of d.answer ≡ tys.Int 64)
@@ -151,6 +152,6 @@ found_main lines (d ∷ ds) (e ∷ es) main later whole first name args answer =
 
 pub main_resolved : (form : Form) (lines : List Line) (line : ℕ) → NoMain lines line → ¬ HasMain (module_of form lines).content
 main_resolved form lines line fault main =
-    true-false (is_main (find is_named (definitions_of lines)))
+    true_and_false (is_main (find is_named (definitions_of lines)))
     (found_main lines (definitions_of lines) main.earlier main.main main.later main.whole
     (recursion_from_All (λ (func : Function). func.name ≢ codes "main") main.earlier main.first) main.name main.args main.answer) fault.lacks

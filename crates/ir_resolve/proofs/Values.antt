@@ -5,8 +5,8 @@ use Rattle.std.specs.List.{Contains}
 use Rattle.std.specs.Str.{bytes_eq}
 use Rattle.std.proofs.lemmas.List.{map-append}
 use Rattle.std.proofs.lemmas.Option.{same_Some, none-some}
-use Rattle.list_laws.proofs.Contents.{contains_cons, contains_none}
-use Rattle.name_chains.proofs.Places.{bytes_eq-same, bytes_eq-self}
+use Rattle.list_laws.proofs.Contents.{contains_cons, contains_none, same_bytes}
+use Rattle.name_chains.proofs.Places.{bytes_eq-self}
 use Rattle.ir_lines.proofs.LawNames.{position-cons, stands, stands_below, number-is}
 use Rattle.ir_ast.specs.Insts.{Instruction}
 use Rattle.ir_ast.specs.Funcs.{Function}
@@ -45,7 +45,7 @@ place_split (x ∷ xs) name v e = by (bytes_eq name x) refl v (sym (position-con
     by true is v f ih =
         let at : 0 ≡ v = same_Some 0 v (sym (ap (λ (c : Bool). cond c (Some 0) (option_map suc (place_in xs name))) is) ∙ f) in
         subst (λ (k : ℕ). (slice_get (x ∷ xs) k ≡ Some name) × ¬ Contains (take k (x ∷ xs)) name) at
-        (ap Some (sym (bytes_eq-same name x is)), λ c. contains_none name c)
+        (ap Some (sym (same_bytes name x is)), λ c. contains_none name c)
     by false is v f ih =
         later (place_in xs name) refl v (sym (ap (λ (c : Bool). cond c (Some 0) (option_map suc (place_in xs name))) is) ∙ f) is ih
 
@@ -89,10 +89,6 @@ names-split func before l after whole =
     ∙ ap (λ (ns : List (List ℕ)). names_of (args ++ results before) ++ ns) (map-append (λ (one : Naming). one.name) own (results after))
 
 -- ---- from the module
-
-pub take_front : {A : Type 0} (xs ys : List A) → take (length xs) (xs ++ ys) ≡ xs
-take_front [] ys = refl
-take_front {A} (x ∷ xs) ys = ap (λ (zs : List A). x ∷ zs) (take_front xs ys)
 
 -- ---- a token that has a name
 

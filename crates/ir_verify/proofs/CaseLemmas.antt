@@ -11,6 +11,7 @@ use Rattle.ir_verify.specs.Cases.{same}
 use Rattle.ir_lines.specs.Notes.{Notes}
 use Rattle.ir_verify.specs.FunctionFaults.{At, Repeats}
 use Rattle.ir_lines.proofs.NoteLemmas.{notes-same}
+use Rattle.list_laws.proofs.Booleans.{first_true, second_true}
 
 eq-same : (x y : ℕ) → nat_eq x y ≡ true → x ≡ y
 eq-same x y e = elim (eqb_tells x y) [ inl t ↦ t.1 | inr t ↦ absurd (let bad : true ≡ false = sym e ∙ t.0 in cc) ]
@@ -33,14 +34,6 @@ same-itself Null = refl
 
 pub same-by : (one other : Operand) → one ≡ other → same one other ≡ true
 same-by one other e = subst (λ (o : Operand). same one o ≡ true) e (same-itself one)
-
-and-left : (a b : Bool) → (a && b) ≡ true → a ≡ true
-and-left true b e = refl
-and-left false b e = e
-
-and-right : (a b : Bool) → (a && b) ≡ true → b ≡ true
-and-right true b e = e
-and-right false b e = absurd (let bad : false ≡ true = e in cc)
 
 cond-true : (b old : Bool) → old ≡ true → cond b true old ≡ true
 cond-true true old e = refl
@@ -71,9 +64,9 @@ seen-more operands later here old new one at so is = (
     to : (nat_lt 0 later && same here one ≡ true) ⊎ (nat_lt 0 later && same here one ≡ false) → new ≡ true → Repeats operands (later + 1) one
     to (inl adds) t = record {
       earlier = later;
-      behind_tested = positive later (and-left (nat_lt 0 later) (same here one) adds);
+      behind_tested = positive later (first_true (nat_lt 0 later) (same here one) adds);
       in_order = omega arith;
-      same = at ∙ ap Some (same-to here one (and-right (nat_lt 0 later) (same here one) adds));
+      same = at ∙ ap Some (same-to here one (second_true (nat_lt 0 later) (same here one) adds));
     }
     to (inr none) t = repeats-later operands later one (so.0 (sym (is ∙ ap (λ (b : Bool). cond b true old) none) ∙ t))
 

@@ -13,6 +13,7 @@ use Rattle.ir_ast.specs.Funcs.{Function}
 use Rattle.ir_ast.specs.Edges.{targets, count_of, edges}
 use Rattle.ir_verify.specs.Phis.{times, AddsEdges, AreEdges}
 use Rattle.ir_verify.proofs.CountLemmas.{count_by-append}
+use Rattle.std.proofs.lemmas.Bool.{cases_lt}
 
 -- ---- labels
 
@@ -135,14 +136,11 @@ edges-more func i block old new at e a = record {
         = ap (λ o. option_map_or (λ (b : BasicBlock). count_of to (targets b)) o 0) at in
         omega arith)
 
-within-or-past : (k n : ℕ) → (k < n) ⊎ (n ≤ k)
-within-or-past k n = grind arith
-
 pub edges-all : (func : Function) (i : ℕ) (into : List (List ℕ)) → i ≡ length func.blocks → EdgesUpTo func i into
     → AreEdges func into
 edges-all func i into end e = record {
   same = e.same;
-  counts = λ to from below. by to from below (within-or-past from i);
+  counts = λ to from below. by to from below (cases_lt from i);
 }
   where
     by : (to from : ℕ) → to < length func.blocks → (from < i) ⊎ (i ≤ from) → times from (get_or into to []) ≡ edges func from to
@@ -182,7 +180,7 @@ adds-all from labels i old new end a = subst (λ (ls : List BlockId). AddsEdges 
 
 -- an edge leads from a block that there is
 pub edge-inside : (func : Function) (from to : ℕ) → 0 < edges func from to → from < length func.blocks
-edge-inside func from to some = elim (within-or-past from (length func.blocks)) [
+edge-inside func from to some = elim (cases_lt from (length func.blocks)) [
   | inl lt ↦ lt
   | inr le ↦ absurd (let none : edges func from to ≡ 0
       = ap (λ o. option_map_or (λ (b : BasicBlock). count_of to (targets b)) o 0) (slice_get_past func.blocks from le) in omega (arith, none, some))

@@ -64,8 +64,3 @@ equal-iff m n = elim (eqb_tells m n) [
   | inl t ↦ ((λ is. t.1), (λ e. t.0))
   | inr t ↦ ((λ is. absurd (let bad : true ≡ false = sym is ∙ t.0 in cc)), (λ e. absurd (t.1 e)))
 ]
-
--- what a call answers in turn
-pub on-ok : {A E : Type 0} (r : Result A E) (P Q : Type 0) → (P → Q) → OnOk r P → OnOk r Q
-on-ok (Ok a) P Q to h = to h
-on-ok (Err e) P Q to h = tt

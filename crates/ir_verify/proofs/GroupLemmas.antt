@@ -18,11 +18,11 @@ use Rattle.ir_ast.specs.declared.ops.Op.TheVariants.{Statepoint, GcResult, GcRel
 use Rattle.ir_ast.specs.Insts.{Instruction}
 use Rattle.ir_ast.specs.Funcs.{Function, instructions_of}
 use Rattle.ir_ast.specs.Values.{value_types}
-use Rattle.ir_ast.specs.Operands.{value_in}
+use Rattle.ir_ast.specs.Operands.{value_in, named}
 use Rattle.ir_ast.specs.Faults.TypeClash.{Fits}
 use Rattle.ir_ast.specs.Faults.GroupShape.{Group, ResultInShape, RelocateInShape, ShapeOf, entries_of, is_part, is_statepoint, number_at}
 use Rattle.body_tables.specs.Bodies.{given_by}
-use Rattle.ir_verify.specs.Groups.{is_value_of, OpenGroup, kept_by, kept_open, behind_op, token_of, IsResultOf, IsRelocateOf, ResultFits, RelocateFits, number_in, HaveEntries, NamesToken, UsesNo, ShapeBy, IsOpen, Opened}
+use Rattle.ir_verify.specs.Groups.{is_value_of, OpenGroup, kept_by, kept_open, behind_op, IsResultOf, IsRelocateOf, ResultFits, RelocateFits, number_in, HaveEntries, NamesToken, UsesNo, ShapeBy, IsOpen, Opened}
 use Rattle.body_tables.proofs.Values.{gives, taken_more}
 
 -- ---- parts by their first operand
@@ -253,7 +253,7 @@ module _ (func : Function) (place : ℕ) (inst : Instruction) where
       let head = one-head func shape.token.0 group.number place shape.group o.group in
       let same = one-statepoint func shape.token.0 group.number place shape.group o.group in
       let fits : IsResultOf group inst = record {
-        operands = shape.operands ∙ ap (λ (n : ℕ). token_of n ∷ []) (sym found.2);
+        operands = shape.operands ∙ ap (λ (n : ℕ). named n ∷ []) (sym found.2);
         fresh = o.fresh.1 (ap (λ n. n + 1) (sym head) ∙ shape.directly);
         type = shape.type ∙ ap (λ (one : Instruction). one.ty) same ∙ sym o.answer;
       } in
@@ -285,7 +285,7 @@ module _ (func : Function) (place : ℕ) (inst : Instruction) where
       let fits : IsRelocateOf group inst = record {
         base = shape.base;
         derived = shape.derived;
-        operands = shape.operands ∙ ap (λ (n : ℕ). token_of n ∷ Int shape.base ∷ Int shape.derived ∷ []) (sym found.2);
+        operands = shape.operands ∙ ap (λ (n : ℕ). named n ∷ Int shape.base ∷ Int shape.derived ∷ []) (sym found.2);
         base_entry = (let b = shape.base_entry in omega (arith, b, size));
         derived_entry = (shape.derived_entry.0, ap (λ (es : List Operand). slice_get es shape.derived) (sym live) ∙ shape.derived_entry.1);
       } in
@@ -385,9 +385,9 @@ number-below func place =
 
 -- ---- the operands of a relocate
 
-value-first : (token : ℕ) (operand : Operand) → is_value_of token (Some operand) ≡ true → operand ≡ token_of token
+value-first : (token : ℕ) (operand : Operand) → is_value_of token (Some operand) ≡ true → operand ≡ named token
 value-first token (Value value) e = elim (eqb_tells value.0 token) [
-  | inl t ↦ ap token_of t.1
+  | inl t ↦ ap named t.1
   | inr t ↦ absurd (false≢true (sym t.0 ∙ e))
 ]
 value-first token operand e = absurd (false≢true e)

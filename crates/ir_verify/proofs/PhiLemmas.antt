@@ -4,7 +4,7 @@ use Rattle.std.specs.Prelude.{nat_eq, IsTrue, ◌↔◌, Option, Some, slice_get
 use Rattle.std.specs.List.{All, list_all}
 use Rattle.std.specs.List.Sorted.{IsNonDecreasing}
 use Rattle.std.specs.Str.{bytes_eq}
-use Rattle.std.proofs.lemmas.Bool.{not-true}
+use Rattle.std.proofs.lemmas.Bool.{not-true, cases_lt}
 use Rattle.std.proofs.lemmas.Bool.Decides.{eqb_tells}
 use Rattle.std.proofs.lemmas.List.{get_or-set_same, get_or-set_other, length-append, take-append-drop}
 use Rattle.std.proofs.lemmas.Grind.{flat_map-append}
@@ -30,6 +30,8 @@ use Rattle.ir_verify.specs.Phis.{times, numbers_of, Counts, Agree, AreRight, IsW
 use Rattle.ir_verify.proofs.CountLemmas.{count_by-map, IsApart, same-or-apart}
 use Rattle.body_tables.specs.Bodies.{any_phi}
 use Rattle.body_tables.proofs.Values.{taken_more}
+use Rattle.ir_ast.proofs.FuncLaws.{starts_low}
+use Rattle.ir_ast.proofs.OpLaws.{same_block}
 
 -- ---- labels, counted
 
@@ -92,9 +94,6 @@ IsFilled labels operands places n = (k : ℕ) (label : BlockId) → k < n → sl
 pub filled-none : (labels : List BlockId) (operands : List Operand) (places : List ℕ) → IsFilled labels operands places 0
 filled-none labels operands places k label below at = absurd (omega (arith, below))
 
-same-block : (one other : BlockId) → one.0 ≡ other.0 → one ≡ other
-same-block one other e = ap (λ (n : ℕ). let b : BlockId = record { 0 = n } in b) e
-
 pub filled-more : (labels : List BlockId) (operands : List Operand) (places : List ℕ) (n : ℕ) (here : BlockId) → slice_get labels n ≡ Some here
     → here.0 < length places → IsFilled labels operands places n
     → (slice_index places here.0 < n → slice_get labels (slice_index places here.0) ≡ slice_get labels n
@@ -116,7 +115,7 @@ filled-more labels operands places n here at inside filled agrees k label below 
     at-own : slice_get operands n ≡ slice_get operands k → here.0 ≡ label.0 → Placed labels operands (set places here.0 n) (n + 1) k label
     at-own agree e =
         let p = own e in
-        let same : here ≡ label = same-block here label e in
+        let same : here ≡ label = same_block here label e in
         record {
           below = omega (arith, p);
           same = ap (slice_get labels) p ∙ at ∙ ap (λ (b : BlockId). Some b) same ∙ sym is;
@@ -128,7 +127,7 @@ filled-more labels operands places n here at inside filled agrees k label below 
     by (inl t) (inr e) = at-own (ap (slice_get operands) (sym e)) t.1
     by (inl t) (inl lt) =
         let f = filled k label lt is in
-        let same : here ≡ label = same-block here label t.1 in
+        let same : here ≡ label = same_block here label t.1 in
         let there : slice_index places here.0 ≡ slice_index places label.0 = ap (slice_index places) t.1 in
         let low : slice_index places here.0 < n = omega (arith, f.below, there) in
         let alike : slice_get labels (slice_index places here.0) ≡ slice_get labels n
@@ -147,12 +146,9 @@ filled-more labels operands places n here at inside filled agrees k label below 
         let alike : here ≡ label = cc in
         absurd (t.1 (ap (λ (b : BlockId). b.0) alike))
 
-within-or-past : (k n : ℕ) → (k < n) ⊎ (n ≤ k)
-within-or-past k n = grind arith
-
 pub filled-agree : (labels : List BlockId) (operands : List Operand) (places : List ℕ) (n : ℕ) → n ≡ length labels → length operands ≤ length labels
     → IsFilled labels operands places n → Agree labels operands
-filled-agree labels operands places n end few filled j k same = by (within-or-past j n) (within-or-past k n)
+filled-agree labels operands places n end few filled j k same = by (cases_lt j n) (cases_lt k n)
   where
     by : (j < n) ⊎ (n ≤ j) → (k < n) ⊎ (n ≤ k) → slice_get operands j ≡ slice_get operands k
     by (inl p) (inl q) =
@@ -218,21 +214,11 @@ start-more func i block at =
     ∙ length-append (instructions_of (take i func.blocks)) (instructions_of (block ∷ []))
     ∙ ap (λ n. start_of func i + n) (length-append block.insts [] ∙ (let z : length block.insts + 0 ≡ length block.insts = omega arith in z))
 
-start-up : (blocks : List BasicBlock) (n : ℕ) → length (instructions_of (take n blocks)) ≤ length (instructions_of blocks)
-start-up blocks n =
-    let front = instructions_of (take n blocks) in
-    let rest = instructions_of (drop n blocks) in
-    let e : length (instructions_of (take n blocks ++ drop n blocks)) ≡ length front + length rest
-    = ap length (flat_map-append (λ (b : BasicBlock). b.insts) (take n blocks) (drop n blocks)) ∙ length-append front rest in
-    let w : length (instructions_of (take n blocks ++ drop n blocks)) ≡ length (instructions_of blocks)
-    = ap (λ (bs : List BasicBlock). length (instructions_of bs)) (take-append-drop n blocks) in
-    omega (arith, e, w)
-
 pub start-within : (func : Function) (i : ℕ) (block : BasicBlock) → slice_get func.blocks i ≡ Some block
     → start_of func i + length block.insts ≤ length (instructions_of func.blocks)
 start-within func i block at =
     let more = start-more func i block at in
-    let up = start-up func.blocks (i + 1) in
+    let up = starts_low func.blocks (i + 1) in
     omega (arith, more, up)
 
 pub late-more : (insts : List Instruction) (i : ℕ) (inst : Instruction) → slice_get insts i ≡ Some inst

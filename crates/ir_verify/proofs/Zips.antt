@@ -6,12 +6,6 @@ use Rattle.std.proofs.lemmas.List.{take_all, take-append-drop, length-drop, leng
 use Rattle.std.proofs.lemmas.List.Elements.{All-nil, All-cons, All-head, All-tail, All-more}
 use Rattle.std.proofs.lemmas.Option.{none-some, same_Some, slice_get_within, get_or_from_slice_get}
 
-pub zip_long : {A B : Type 0} (R : A → B → Type 0) (xs : List A) (ys : List B) → AllZip R xs ys → length xs ≡ length ys
-zip_long R [] [] all = refl
-zip_long R [] (y ∷ ys) all = absurd all
-zip_long R (x ∷ xs) [] all = absurd all
-zip_long R (x ∷ xs) (y ∷ ys) all = ap suc (zip_long R xs ys all.1)
-
 pub zip_at : {A B : Type 0} (R : A → B → Type 0) (xs : List A) (ys : List B) (k : ℕ) (x : A) (y : B) → AllZip R xs ys
     → slice_get xs k ≡ Some x → slice_get ys k ≡ Some y → R x y
 zip_at R [] ys k x y all is also = absurd (none-some x is)

@@ -10,7 +10,7 @@ use Rattle.ir_ast.specs.declared.ops.Op.{Op}
 use Rattle.ir_ast.specs.declared.ops.Op.TheVariants.{Statepoint, GcResult, GcRelocate}
 use Rattle.ir_ast.specs.Insts.{Instruction}
 use Rattle.ir_ast.specs.Funcs.{Function}
-use Rattle.ir_ast.specs.Operands.{values_used}
+use Rattle.ir_ast.specs.Operands.{values_used, named}
 use Rattle.ir_ast.specs.Faults.TypeClash.{Fits}
 use Rattle.ir_ast.specs.Faults.GroupShape.{Group, entries_of, is_part}
 use Rattle.ir_verify.specs.declared.groups.Open.{Open}
@@ -49,11 +49,8 @@ behind_op held number op inst = None
 
 -- ---- results and relocates
 
-abbrev pub token_of : ℕ → Operand
-token_of number = Value (record { 0 = number })
-
 pub record IsResultOf (group : OpenGroup) (inst : Instruction) : Type 0 where
-  pub operands : inst.operands ≡ token_of group.number ∷ []
+  pub operands : inst.operands ≡ named group.number ∷ []
   pub fresh : group.is_fresh ≡ true
   pub type : inst.ty ≡ group.answer
 
@@ -76,7 +73,7 @@ HaveEntries group _ _ = ⊥
 pub record IsRelocateOf (group : OpenGroup) (inst : Instruction) : Type 0 where
   pub base : ℕ
   pub derived : ℕ
-  pub operands : inst.operands ≡ token_of group.number ∷ Int base ∷ Int derived ∷ []
+  pub operands : inst.operands ≡ named group.number ∷ Int base ∷ Int derived ∷ []
   pub base_entry : base < length group.live
   pub derived_entry : (value : ValueId) × (slice_get group.live derived ≡ Some (Value value))
 

@@ -8,14 +8,14 @@ ghost use Rattle.ir_ast.specs.declared.ops.Operand.TheVariants.{Value};
 ghost use Rattle.sp_ids.specs.declared.ids.ValueId.{ValueId};
 ghost use Rattle.ir_ast.specs.Faults.TypeClash.{Fits};
 ghost use Rattle.ir_ast.specs.Funcs.{instructions_of};
-ghost use Rattle.ir_ast.specs.Operands.{value_in, values_used};
+ghost use Rattle.ir_ast.specs.Operands.{value_in, values_used, named};
 ghost use Rattle.ir_ast.specs.Values.{value_types};
 ghost use Rattle.ir_ast.specs.Faults.GroupShape.{entries_of, is_part};
 ghost use Rattle.ir_verify.specs.Bodies.{insts_of};
 ghost use Rattle.body_tables.specs.Bodies.{seen_insts, given_by};
 ghost use Rattle.ir_verify.specs.Founds.{FoundIn};
 ghost use Rattle.ir_verify.specs.FunctionFaults.{ShapeAt};
-ghost use Rattle.ir_verify.specs.Groups.{is_value_of, seen_open, kept_open, behind_op, token_of, ResultFits, IsResultOf, RelocateFits, IsRelocateOf, number_in, NamesEntries, HaveEntries, NamesToken, UsesNo, ShapeBy};
+ghost use Rattle.ir_verify.specs.Groups.{is_value_of, seen_open, kept_open, behind_op, ResultFits, IsResultOf, RelocateFits, IsRelocateOf, number_in, NamesEntries, HaveEntries, NamesToken, UsesNo, ShapeBy};
 ghost use Rattle.ir_lines.specs.Notes.{Notes};
 
 use crate::types::all_fit;
@@ -125,7 +125,7 @@ fn open_behind<'a>(held: Option<Open<'a>>, number: u64, inst: &'a Inst) -> Optio
 
 // Whether the operands are this token alone.
 fn is_alone(operands: &[Operand], token: u64) -> bool
-    ensures { IsTrue result ↔ (operands.now ≡ token_of token ∷ []) }
+    ensures { IsTrue result ↔ (operands.now ≡ named token ∷ []) }
 {
     match operands {
         [Operand::Value(value)] => u64::from(value.0) == token,

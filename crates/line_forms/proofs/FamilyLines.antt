@@ -4,7 +4,7 @@ use Rattle.std.proofs.Common.{◌≡◌, ℕ, Bool, true, false, cond, ◌&&◌,
 use Rattle.std.specs.Prelude.{codes, not, drop}
 use Rattle.std.specs.List.{list_all, list_any}
 use Rattle.std.specs.Str.{bytes_eq}
-use Rattle.std.proofs.lemmas.Bool.{true≢false, eqb-true}
+use Rattle.std.proofs.lemmas.Bool.{true≢false, eqb-true, not-true, and_parts, or_parts, or_right}
 use Rattle.std.proofs.lemmas.List.Folds.{list_any-append}
 use Rattle.std.proofs.lemmas.Slice.Eq.{bytes_eq-Decides}
 use Rattle.sp_text.specs.Tokens.{Tok, tok, bad, over, note, is_numeral, are_digits, is_nothing}
@@ -31,6 +31,7 @@ use Rattle.line_parts.specs.Groups.{number_at, zero_at, token_at, types_at, hand
 use Rattle.line_forms.specs.Slots.{Slot, Item, says, says_nothing, part, parse, blank, m, w, g, dropped, a_managed, a_quoted, a_hash, to_brace, a_local, a_layout_name, a_width, a_type, an_answer, a_cast_type, a_value, a_case, a_pred, a_scalar, a_layout, a_place, some_fields, some_entries, a_declared, a_defined, a_called, a_strategy, a_zero, a_closing, a_family_answer, a_family, a_bracketing, a_token, a_global, some_types, some_handed, some_live, a_result, a_number, name, layout_name, width, ty, value, pred, scalar, layout, place, fields, entries, declared, defined, called, strategy, types as types_said, handed, live, literal, family_answer}
 use Rattle.line_forms.specs.Forms.{slots, agree, fit, or_else, first_types, last_types, form_of, first_global, callee_of, declared_of, behind_result, called_form, declared_form, group_form, form_in, is_group_form, names_family, stands_in}
 use Rattle.line_forms.proofs.Openings.{told, rest_is, said_is, word_found, mark_found, local_found, like, opens, found_is}
+use Rattle.sp_text.proofs.Spelled.{numeral_digits}
 
 -- ---- a part, and what follows it
 
@@ -87,11 +88,6 @@ unfolding after
 says_unnamed item None none here rest e = absurd cc
 says_unnamed item (Some x) none here rest e = none_unnamed (item x.0 ∷ [], x.1) here rest (or_false (names_family (item x.0)) (none x.0)) e
 
-neither : (a b : Bool) → (a || b) ≡ false → (a ≡ false) × (b ≡ false)
-neither false false e = (refl, refl)
-neither false true e = absurd cc
-neither true b e = absurd cc
-
 abbrev names_slot : Slot → Bool
 names_slot a_declared = true
 names_slot a_called = true
@@ -144,7 +140,7 @@ unfolding parse
 unnamed [] ts said end names e = none_unnamed ([], ts) said end refl e
 unnamed (s ∷ f) ts said end names e =
     let p = split s f ts said end e in
-    let n = neither (names_slot s) (list_any names_slot f) names in
+    let n = or_parts (names_slot s) (list_any names_slot f) names in
     rw (split_names s f ts said end p, unnamed_part s ts p.here p.rest n.0 p.part_is, unnamed f p.rest p.more end n.1 p.parse_is) refl
 
 -- what a slot that names no family leaves
@@ -313,24 +309,6 @@ head_first declares ts head rest e =
 
 -- ---- the name of a result
 
-zero_alone : (b : ℕ) (bs : List ℕ) (z : Bool) → eqb b 48 ≡ z → cond z (is_nothing bs) (are_digits (b ∷ bs)) ≡ true → are_digits (b ∷ bs) ≡ true
-zero_alone b [] true z e = rw (eqb-true b 48 z) refl
-zero_alone b (c ∷ bs) true z e = absurd cc
-zero_alone b bs false z e = e
-
-numeral_digits : (digits : List ℕ) → is_numeral digits ≡ true → are_digits digits ≡ true
-numeral_digits [] e = absurd cc
-numeral_digits (b ∷ bs) e = zero_alone b bs (eqb b 48) refl e
-
-both : (b c : Bool) → (b && c) ≡ true → (b ≡ true) × (c ≡ true)
-both true true e = (refl, refl)
-both true false e = absurd cc
-both false c e = absurd cc
-
-or_right : (a b : Bool) → b ≡ true → (a || b) ≡ true
-or_right true b e = refl
-or_right false b e = e
-
 void_no_integer : (ts : List Tok) (n : ℕ) (rest : List Tok) → told (types.Void, ts) ≡ Some (types.Int n, rest) → ⊥
 void_no_integer ts n rest e = let same : types.Void ≡ types.Int n = said_is (types.Void, ts) (types.Int n, rest) e in cc
 
@@ -358,7 +336,7 @@ word_by false false ts n rest e = cc
 word_suffix : (i : ℕ) (digits : List ℕ) (ts : List Tok) (n : ℕ) (rest : List Tok) (bits : ℕ) (b : Bool) → (eqb i 105 && is_numeral digits) ≡ b
     → type_behind (tok kinds.Word (i ∷ digits)) ts (cond b (Some bits) None) ≡ Some (types.Int n, rest) → is_suffix (Some (i ∷ digits)) ≡ true
 word_suffix i digits ts n rest bits true is e =
-    let p = both (eqb i 105) (is_numeral digits) is in
+    let p = and_parts (eqb i 105) (is_numeral digits) is in
     or_right (bytes_eq (i ∷ digits) (codes "p1")) (eqb i 105 && are_digits digits) (rw (p.0, numeral_digits digits p.1) refl)
 word_suffix i digits ts n rest bits false is e =
     absurd (word_by (bytes_eq (i ∷ digits) (codes "void")) (bytes_eq (i ∷ digits) (codes "ptr")) ts n rest e)
@@ -602,7 +580,7 @@ quiet_behind : (f behind : List Slot) (ts : List Tok) (said : List Item) (end : 
 quiet_behind [] behind ts said end quiet e = record { at = ts; more = said; parse_is = e; first = refl }
 quiet_behind (s ∷ f) behind ts said end quiet e =
     let p = split s (f ++ behind) ts said end e in
-    let b = both (is_quiet s) (list_all is_quiet f) quiet in
+    let b = and_parts (is_quiet s) (list_all is_quiet f) quiet in
     let r = quiet_behind f behind p.rest p.more end b.1 p.parse_is in
     record { at = r.at; more = r.more; parse_is = r.parse_is; first = quiet_first s ts p.here p.rest b.0 p.part_is ∙ r.first }
 
@@ -709,17 +687,13 @@ declared_back : (b : Bool) → cond b (forms.Dropped drop_lines.Family) forms.De
 declared_back true e = absurd cc
 declared_back false e = refl
 
-a_statepoint : called_form (Some statepoint_name) ≡ forms.Statepoint
+pub a_statepoint : called_form (Some statepoint_name) ≡ forms.Statepoint
 unfolding statepoint_name relocate_name result_front result_suffix
 a_statepoint = refl
 
 a_relocate : called_form (Some relocate_name) ≡ forms.GcRelocate
 unfolding statepoint_name relocate_name result_front result_suffix
 a_relocate = refl
-
-not_true : (b : Bool) → not b ≡ true → b ≡ false
-not_true true e = absurd cc
-not_true false e = refl
 
 -- ---- each form
 
@@ -762,8 +736,8 @@ opened form said ts end e = opens form ts (found_is (parse (slots form) ts) (sai
 
 pub form_is : (text : TextForm) (form : Form) (said : List Item) (ts end : List Tok) → parse (slots form) ts ≡ Some (said, end) → stands_in text form said ≡ true → form_in text ts ≡ Some form
 unfolding form_in
-form_is text_forms.Source form said ts end e stands = opened form said ts end e ∙ ap (λ (f : Form). Some f) (ungrouped form (not_true (is_group_form form) stands))
-form_is text_forms.Rewritten form said ts end e stands = rw (opened form said ts end e) (grouped form said ts end e (not_true (Names said) stands))
+form_is text_forms.Source form said ts end e stands = opened form said ts end e ∙ ap (λ (f : Form). Some f) (ungrouped form (not-true (is_group_form form) stands))
+form_is text_forms.Rewritten form said ts end e stands = rw (opened form said ts end e) (grouped form said ts end e (not-true (Names said) stands))
 
 -- ---- what is read may stand there
 

@@ -3,7 +3,7 @@ use Rattle.std.proofs.Common.{◌≡◌, ℕ, Bool, true, false, cond, ◌&&◌,
 use Rattle.std.specs.Prelude.{codes, drop, is_some}
 use Rattle.std.specs.Str.{bytes_eq}
 use Rattle.std.proofs.lemmas.Slice.Eq.{bytes_eq-Decides}
-use Rattle.std.proofs.lemmas.Bool.{eqb-true}
+use Rattle.std.proofs.lemmas.Bool.{eqb-true, and_parts}
 use Rattle.sp_text.specs.Tokens.{Tok, tok, is_name, is_numeral}
 use Rattle.sp_text.specs.declared.tokens.Kind.TheVariants as kinds
 use Rattle.line_tokens.specs.declared.words.Binary.{Binary}
@@ -164,7 +164,7 @@ by_equals g form known ts e =
 by_result : (text : List ℕ) (f : List Slot) (form : Form) → ((rest : List Tok) → IsFound (parse f rest) → named_form text rest ≡ Some form) → Opens form (a_local ∷ blank ∷ m (codes "=") ∷ blank ∷ w text ∷ f)
 by_result text f form known = by_equals (w text ∷ f) form (λ rest e. let a = behind_word text f rest e in rw a.1 (known a.0 a.2))
 
-binary_named : (op : Binary) (ts : List Tok) → named_form (binary_word op) ts ≡ Some (forms.Binary op)
+pub binary_named : (op : Binary) (ts : List Tok) → named_form (binary_word op) ts ≡ Some (forms.Binary op)
 unfolding named_form
 binary_named ops.Add ts = refl
 binary_named ops.Sub ts = refl
@@ -180,7 +180,7 @@ binary_named ops.Shl ts = refl
 binary_named ops.Lshr ts = refl
 binary_named ops.Ashr ts = refl
 
-conversion_named : (op : Conversion) (ts : List Tok) → named_form (conversion_word op) ts ≡ Some (forms.Convert op)
+pub conversion_named : (op : Conversion) (ts : List Tok) → named_form (conversion_word op) ts ≡ Some (forms.Convert op)
 unfolding named_form
 conversion_named convs.Trunc ts = refl
 conversion_named convs.Zext ts = refl
@@ -292,11 +292,6 @@ void_call f ts e = let a = calling f ts e in rw a.2 (plain_call a.0 a.1 a.3)
 
 -- ---- cases
 
-both : (b c : Bool) → (b && c) ≡ true → (b ≡ true) × (c ≡ true)
-both true true e = (refl, refl)
-both true false e = absurd cc
-both false c e = absurd cc
-
 chosen : {A : Type 0} (b : Bool) (x : A) → is_some (cond b (Some x) None) ≡ true → b ≡ true
 chosen true x e = refl
 chosen false x e = absurd cc
@@ -314,7 +309,7 @@ width_found : (ts : List Tok) → IsFound (part a_width ts) → form_of ts ≡ S
 unfolding part one_noted_at after
 width_found [] e = absurd cc
 width_found (tok kinds.Word (i ∷ digits) ∷ ts) e =
-    let p = both (eqb i 105) (is_numeral digits) (chosen (eqb i 105 && is_numeral digits) _ (width_said (noted (width_passes (tok kinds.Word (i ∷ digits))) ts) (width_of (tok kinds.Word (i ∷ digits))) e)) in
+    let p = and_parts (eqb i 105) (is_numeral digits) (chosen (eqb i 105 && is_numeral digits) _ (width_said (noted (width_passes (tok kinds.Word (i ∷ digits))) ts) (width_of (tok kinds.Word (i ∷ digits))) e)) in
     case_word i digits ts (eqb-true i 105 p.0) p.1
 width_found (t ∷ ts) e = absurd cc
 

@@ -1,3 +1,5 @@
+//! What lines say, by their forms.
+
 use crate::bundles::LiveEntries;
 use ir_ast::Pred;
 use line_parts::{AllPassed, Arguments, Entries, Fields, Parameters, TypeWord, Value};

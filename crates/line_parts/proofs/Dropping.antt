@@ -154,6 +154,10 @@ unfolding past_all
 past_all-none what [] e = at_end 0 what [] (omega arith)
 past_all-none what (t ∷ ts) e = unroll (length ts) what (t ∷ ts) None e
 
+-- by its name a search finds it
+pub nothing_passed : (what : Dropped) (ts : List Tok) → past_dropped what ts ≡ None → past_all what ts ≡ ts
+nothing_passed what ts e = past_all-none what ts e
+
 pub past_all-some : (what : Dropped) (ts rest : List Tok) → past_dropped what ts ≡ Some rest → past_all what ts ≡ past_all what rest
 unfolding past_all
 past_all-some what [] rest e = absurd (omega (arith, past_dropped-shrinks what [] rest e))
@@ -172,9 +176,6 @@ at_most-le (suc n) what ts = behind-le n what ts (past_dropped what ts) refl (λ
 pub past_all-le : (what : Dropped) (ts : List Tok) → count (past_all what ts) ≤ count ts
 unfolding past_all
 past_all-le what ts = at_most-le (length ts) what ts
-
-pub nothing_passed : (what : Dropped) (ts : List Tok) → past_dropped what ts ≡ None → past_all what ts ≡ ts
-nothing_passed what ts e = past_all-none what ts e
 
 -- what one look at the next token tells
 

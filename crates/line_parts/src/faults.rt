@@ -1,3 +1,5 @@
+//! Why a part of a line is not read.
+
 ghost use Rattle.std.specs.Prelude.{◌≡◌};
 ghost use Rattle.line_parts.specs.declared.faults.Stop.TheVariants.{Memory};
 

@@ -1,3 +1,5 @@
+//! What the parts of lines say: types, values and arguments.
+
 use line_tokens::{Literal, Width};
 use smallvec::SmallVec;
 use sp_text::Name;

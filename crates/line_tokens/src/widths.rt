@@ -1,3 +1,5 @@
+//! Widths of integer types.
+
 ghost use Rattle.std.specs.Prelude.{IsTrue};
 ghost use Rattle.line_tokens.specs.Numbers.{is_width};
 

@@ -44,3 +44,7 @@ same_tests false false there back = refl
 pub cond_same : {A : Type 0} (x : Bool) (a : A) → cond x a a ≡ a
 cond_same true a = refl
 cond_same false a = refl
+
+pub or_assoc : (s t u : Bool) → ((s || t) || u) ≡ (s || (t || u))
+or_assoc true t u = refl
+or_assoc false t u = refl

@@ -5,3 +5,4 @@ pub mod Contents
 pub mod Ranges
 pub mod Tests
 pub mod Zips
+pub mod Numbers

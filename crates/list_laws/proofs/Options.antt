@@ -17,10 +17,6 @@ pub inner_some : {A : Type 0} (x : A) (o : Option (Option A)) → unwrap_or o No
 inner_some x None is = absurd (none-some x is)
 inner_some x (Some o) is = ap (λ p. Some p) is
 
-pub ok_weaker : {A E : Type 0} (r : Result A E) (P Q : A → Type 0) → ((x : A) → P x → Q x) → IfOk r P → IfOk r Q
-ok_weaker (Ok x) P Q each holds = each x holds
-ok_weaker (Err e) P Q each holds = holds
-
 pub on_ok : {A E : Type 0} (r : Result A E) (P Q : Type 0) → (P → Q) → OnOk r P → OnOk r Q
 on_ok (Ok x) P Q to holds = to holds
 on_ok (Err e) P Q to holds = tt

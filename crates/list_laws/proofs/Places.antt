@@ -2,7 +2,8 @@
 use Rattle.std.proofs.Common.{Option, None, ◌≡◌, ◌≢◌, ◌∙◌, ◌⊎◌, inl, inr, ℕ, zero, suc, ◌+◌, ◌<◌, List, [], ◌∷◌, ◌++◌, map, length, get_or, set, take, drop, replicate, refl, ap, sym, arith, Some, slice_get}
 use Rattle.std.specs.List.{filter_map, cons_option}
 use Rattle.std.proofs.lemmas.List.{drop_more, take_more, take-append-drop}
-use Rattle.std.proofs.lemmas.Option.{slice_get_within, get_or_from_slice_get, none-some, same_Some}
+use Rattle.std.specs.Prelude.{option_map, unwrap_or}
+use Rattle.std.proofs.lemmas.Option.{slice_get-map, slice_get-get_or, slice_get_within, get_or_from_slice_get, none-some, same_Some}
 
 -- a place below the next one is below this one, or is this one
 pub cases_below : (place end : ℕ) → place < end + 1 → (place < end) ⊎ (place ≡ end)
@@ -270,3 +271,30 @@ filter_map_forth h (first ∷ xs) zero x y at gives = given_here h first xs y (h
 filter_map_forth h (first ∷ xs) (suc place) x y at gives =
     let rest = filter_map_forth h xs place x y at gives in
     given_later h xs y (h first) rest.0 rest.1
+
+pub take_whole : {A : Type 0} (xs : List A) → take (length xs) xs ≡ xs
+take_whole [] = refl
+take_whole (x ∷ xs) = ap (λ rest. x ∷ rest) (take_whole xs)
+
+pub take_front_of : {A : Type 0} (front back : List A) → take (length front) (front ++ back) ≡ front
+take_front_of [] back = refl
+take_front_of (x ∷ front) back = ap (λ rest. x ∷ rest) (take_front_of front back)
+
+pub get_read : {A : Type 0} (xs : List A) (at : ℕ) (x : A) → at < length xs → x ≡ get_or xs at x → slice_get xs at ≡ Some x
+get_read xs at x below is = slice_get-get_or xs at x below ∙ ap Some (sym is)
+
+pub map_append : {A B : Type 0} (f : A → B) (xs ys : List A) → map f (xs ++ ys) ≡ map f xs ++ map f ys
+map_append f [] ys = refl
+map_append f (x ∷ xs) ys = ap (λ more. f x ∷ more) (map_append f xs ys)
+
+pub map_map : {A B C : Type 0} (f : B → C) (view : A → B) (xs : List A) → map f (map view xs) ≡ map (λ x. f (view x)) xs
+map_map f view [] = refl
+map_map f view (x ∷ xs) = ap (λ rest. f (view x) ∷ rest) (map_map f view xs)
+
+pub seen_at : {X Y : Type 0} (f : X → Y) (xs : List X) (i : ℕ) (x : X) → i < length xs → x ≡ get_or xs i x → slice_get (map f xs) i ≡ Some (f x)
+seen_at f xs i x below is = slice_get-map f xs i ∙ ap (option_map f) (slice_get-get_or xs i x below ∙ ap Some (sym is))
+
+pub set_none : {X : Type 0} (xs : List (Option X)) (i : ℕ) → unwrap_or (slice_get xs i) None ≡ None → set xs i None ≡ xs
+set_none [] i e = refl
+set_none {X = X} (x ∷ xs) zero e = ap (λ (first : Option X). first ∷ xs) (sym e)
+set_none (x ∷ xs) (suc i) e = ap (λ rest. x ∷ rest) (set_none xs i e)

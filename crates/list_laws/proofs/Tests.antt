@@ -1,5 +1,5 @@
 -- What a test says of the elements of a list.
-use Rattle.std.proofs.Common.{◌≡◌, ◌∙◌, inl, inr, ℕ, zero, suc, ◌+◌, Bool, true, false, List, [], ◌∷◌, map, length, take, set, get_or, refl, ap, sym, arith, Some, slice_get}
+use Rattle.std.proofs.Common.{◌≡◌, ◌∙◌, inl, inr, ℕ, zero, suc, ◌+◌, Bool, true, false, List, [], ◌∷◌, ◌++◌, map, length, take, set, get_or, refl, ap, sym, arith, Some, slice_get}
 use Rattle.std.specs.Prelude.{◌||◌, cond, not}
 use Rattle.std.specs.List.{Contains, count_by, list_all, list_any, position, prefix_len}
 use Rattle.std.proofs.lemmas.Bool.{false≢true, and_parts, cases_Bool, or_cases, or_left, or_right}
@@ -9,6 +9,7 @@ use Rattle.std.proofs.lemmas.List.Sums.{sum_by-set}
 use Rattle.std.proofs.lemmas.List.Quantifiers.{position-Some}
 use Rattle.std.proofs.lemmas.Option.{slice_get_within, slice_get-get_or, get_or_from_slice_get, none-some, same_Some}
 use Rattle.list_laws.proofs.Contents.{contains_first, contains_later}
+use Rattle.list_laws.proofs.Booleans.{or_assoc}
 
 -- ---- each element passes, or one of them
 
@@ -94,3 +95,7 @@ same_marks (mark ∷ marks) (other ∷ others) size there back =
     first true false kept came same = absurd (false≢true (kept refl))
     first false true kept came same = absurd (false≢true (came refl))
     first false false kept came same = ap (λ zs. false ∷ zs) same
+
+pub any_append : {A : Type 0} (p : A → Bool) (one other : List A) → list_any p (one ++ other) ≡ (list_any p one || list_any p other)
+any_append p [] other = refl
+any_append p (x ∷ one) other = ap (λ (t : Bool). p x || t) (any_append p one other) ∙ sym (or_assoc (p x) (list_any p one) (list_any p other))

@@ -15,14 +15,13 @@ use Rattle.ir_cfg.specs.Graphs.{graph_of, succs_of, preds_of, block_at}
 use Rattle.list_laws.proofs.Places.{split_at}
 use Rattle.list_laws.proofs.Contents.{contains_get, get_contained, contains_none, contains_first, contains_later, contains_cons, contains_map, joined_contains}
 use Rattle.rewriting_forms.specs.Numbered.{among, succs, preds}
-use Rattle.rewriting_laws.proofs.LiveLaws.{any_at, edge_succs}
+use Rattle.rewriting_laws.proofs.LiveLaws.{edge_succs}
 use Rattle.rewriting_laws.proofs.LiveExact.{any_found}
-
-same_block : (one other : BlockId) → one.0 ≡ other.0 → one ≡ other
-same_block one other e = ap (λ (n : ℕ). let l : BlockId = record { 0 = n } in l) e
+use Rattle.list_laws.proofs.Ranges.{range_contains}
+use Rattle.std.proofs.lemmas.Map.Keys.{any_passes_from_place}
 
 pub among_has : (xs : List ℕ) (x : ℕ) → Contains xs x → among x xs ≡ true
-among_has xs x has = let at = get_contained xs x has in any_at (λ (y : ℕ). eqb y x) xs at.0 x at.1 (eq-eqb x x refl)
+among_has xs x has = let at = get_contained xs x has in any_passes_from_place (λ (y : ℕ). eqb y x) xs at.0 x at.1 (eq-eqb x x refl)
 
 pub has_among : (xs : List ℕ) (x : ℕ) → among x xs ≡ true → Contains xs x
 has_among xs x is = let at = any_found (λ (y : ℕ). eqb y x) xs is in contains_get xs at.0 x (at.2 ∙ ap Some (eqb_is at.1 x at.3))
@@ -54,9 +53,6 @@ in_range from (suc count) x low high = elim (cases_eq from x) [
   | inr ne ↦ contains_later from x (range_with_len (from + 1) count) (in_range (from + 1) count x (omega arith) (omega arith))
 ]
 
-pub range_has : (count x : ℕ) → x < count → Contains (range_with_len 0 count) x
-range_has count x below = in_range 0 count x (omega arith) (omega arith)
-
 -- a block with an edge out of it is a block
 pub succ_within : (func : Function) (from to : ℕ) → Contains (succs func from) to → from < length func.blocks
 succ_within func from to has = elim (cases_lt from (length func.blocks)) [
@@ -75,7 +71,7 @@ succ_pred func from to has =
     let here = repeated (count_of to (succs_of (graph_of func) from)) (block_at from) some in
     contains_map (λ (l : BlockId). l.0) (preds_of (graph_of func) to) (block_at from)
     (joined_contains (λ (p : ℕ). replicate (count_of to (succs_of (graph_of func) p)) (block_at p)) (range_with_len 0 (length (graph_of func))) from (block_at from)
-    (range_has (length (graph_of func)) from within) here)
+    (range_contains (length (graph_of func)) from within) here)
 
 label_counted : (labels : List BlockId) (place : ℕ) (label : BlockId) → slice_get labels place ≡ Some label → 0 < count_of label.0 labels
 label_counted labels place label is = counted label.0 labels (contains_map (λ (l : BlockId). l.0) labels label (contains_get labels place label is))

@@ -16,15 +16,12 @@ use Rattle.rewriting_forms.specs.Numbered.{preds}
 use Rattle.graph_search.specs.Edges.{targets_of}
 use Rattle.graph_search.specs.Paths.{ReachedFrom, at_start, along, MarksReached}
 use Rattle.list_laws.proofs.Contents.{contains_none}
-use Rattle.live_sets.specs.Values.{has_mark}
 use Rattle.list_laws.proofs.Places.{get_front, get_past, get_map}
 use Rattle.live_sets.specs.Starts.{list_at}
 use Rattle.live_sets.specs.Ends.{fronts_of, Places, end_row, backward_rows, rows_of, AreFronts, AddsEnds}
-
-range_get : (from count k : ℕ) → k < count → slice_get (range_with_len from count) k ≡ Some (from + k)
-range_get from zero k below = absurd (omega arith)
-range_get from (suc count) zero below = let e : from ≡ from + 0 = omega arith in ap Some e
-range_get from (suc count) (suc k) below = let e : (from + 1) + k ≡ from + suc k = omega arith in range_get (from + 1) count k (omega arith) ∙ ap Some e
+use Rattle.list_laws.proofs.Booleans.{and_false}
+use Rattle.list_laws.proofs.Ranges.{range_get}
+use Rattle.ir_ast.specs.Lists.{has_mark}
 
 module _ (fronts : List (List ℕ)) (firsts : List ℕ) (value : ℕ) where
   abbrev rows : List (List ℕ)
@@ -104,10 +101,6 @@ unmarked_at zero node = refl
 unmarked_at (suc n) zero = refl
 unmarked_at (suc n) (suc node) = unmarked_at n node
 
-pub both_false : (t : Bool) → (t && false) ≡ false
-both_false true = refl
-both_false false = refl
-
 pub adds_none : (rows : List (List ℕ)) (wanted : List Bool) (starts : List ℕ) (value : ValueId) (ends : List (Vec ValueId)) → length starts ≡ 0
     → AddsEnds rows wanted starts value ends ends
 adds_none rows wanted (x ∷ starts) value ends none = absurd (omega (arith, none))
@@ -116,7 +109,7 @@ adds_none rows wanted [] value ends none = record {
   reached = no_marks rows;
   whole = refl;
   each = λ block below. sym (ap (λ (t : Bool). list_at ends block ++ (if t then value ∷ [] else []))
-      (ap (λ (t : Bool). has_mark wanted block && t) (unmarked_at (length rows) block) ∙ both_false (has_mark wanted block)) ∙ append-nil (list_at ends block));
+      (ap (λ (t : Bool). has_mark wanted block && t) (unmarked_at (length rows) block) ∙ and_false (has_mark wanted block)) ∙ append-nil (list_at ends block));
 }
 
 pub only_target : (t : Bool) (to number : ℕ) → number < length (if t then [] else to ∷ []) → slice_get (if t then [] else to ∷ []) number ≡ Some to

@@ -15,11 +15,12 @@ use Rattle.ir_ast.specs.Values.{value_types}
 use Rattle.list_laws.proofs.Contents.{contains_get, all_at}
 use Rattle.rewriting_forms.specs.Numbered.{pointers, succs}
 use Rattle.rewriting_forms.specs.Liveness.{live_over, live_front}
-use Rattle.live_sets.specs.Values.{has_mark, valued}
 use Rattle.live_sets.specs.Starts.{list_at}
 use Rattle.live_sets.specs.Ends.{lives_at_end, AreEnds}
 use Rattle.live_sets.proofs.UseLemmas.{among_mark, marked_within}
 use Rattle.live_sets.proofs.EdgeLemmas.{among_has}
+use Rattle.ir_ast.specs.Operands.{valued}
+use Rattle.ir_ast.specs.Lists.{has_mark}
 
 pub empty_at : {A : Type 0} (lists : List (Vec A)) (b : ℕ) → All (λ (list : Vec A). list.items ≡ []) lists → list_at lists b ≡ []
 empty_at lists b all = go (slice_get lists b) refl

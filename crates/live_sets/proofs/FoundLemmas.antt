@@ -10,23 +10,19 @@ use Rattle.sp_ids.specs.declared.ids.ValueId.{ValueId}
 use Rattle.shared_search.specs.Lists.{ListsReached}
 use Rattle.rewriting_forms.specs.Numbered.{among}
 use Rattle.rewriting_forms.specs.Names.{is_many}
-use Rattle.live_sets.specs.Values.{has_mark}
 use Rattle.live_sets.specs.Starts.{list_at, GrownAt}
 use Rattle.live_sets.specs.Ends.{GrownWhere, AddsEnds}
 use Rattle.live_sets.specs.Joins.{AddsJoins}
-use Rattle.live_sets.proofs.UseLemmas.{same_test}
 use Rattle.live_sets.proofs.EdgeLemmas.{among_has, has_among}
-
-mark_stands : (marks : List Bool) (k : ℕ) → has_mark marks k ≡ true → slice_get marks k ≡ Some true
-mark_stands [] k is = absurd (false≢true is)
-mark_stands (x ∷ marks) zero is = ap Some is
-mark_stands (x ∷ marks) (suc k) is = mark_stands marks k is
+use Rattle.ir_ast.proofs.OpLaws.{mark_got}
+use Rattle.list_laws.proofs.Booleans.{same_tests}
+use Rattle.ir_ast.specs.Lists.{has_mark}
 
 -- the found places are those that are marked
 found_mark : (rows : List (List ℕ)) (starts found : List ℕ) (lists : ListsReached rows starts found) (node : ℕ) → among node found ≡ has_mark lists.marks node
-found_mark rows starts found lists node = same_test (among node found) (has_mark lists.marks node)
+found_mark rows starts found lists node = same_tests (among node found) (has_mark lists.marks node)
     (λ is. get_or_from_slice_get lists.marks node true false (lists.marked node (has_among found node is)))
-    (λ is. among_has found node (lists.listed node (mark_stands lists.marks node is)))
+    (λ is. among_has found node (lists.listed node (mark_got lists.marks node is)))
 
 abbrev pub StandsOnce : List ℕ → Type 0
 StandsOnce found = (i j node : ℕ) → slice_get found i ≡ Some node → slice_get found j ≡ Some node → i ≡ j
@@ -110,13 +106,6 @@ pub none_where : (lists : List (Vec ValueId)) (test : ℕ → Bool) (item : Valu
 none_where lists test item none = record {
   whole = refl;
   each = λ b below. sym (ap (λ (t : Bool). list_at lists b ++ (if t then item ∷ [] else [])) (none b below) ∙ append-nil (list_at lists b));
-}
-
-pub grown_where : (old new : List (Vec ValueId)) (place : ℕ) (item : ValueId) (test : ℕ → Bool) → GrownAt old new place item
-    → ((b : ℕ) → b < length old → test b ≡ eqb place b) → GrownWhere old new test item
-grown_where old new place item test grown same = record {
-  whole = grown.whole;
-  each = λ b below. grown.each b below ∙ sym (ap (λ (t : Bool). list_at old b ++ (if t then item ∷ [] else [])) (same b below));
 }
 
 -- a front that one edge leads to is no join

@@ -15,12 +15,15 @@ use Rattle.list_laws.proofs.Contents.{contains_get}
 use Rattle.rewriting_forms.specs.Numbered.{among, pointers, preds}
 use Rattle.rewriting_forms.specs.Liveness.{is_live}
 use Rattle.rewriting_forms.specs.Names.{stands_in_list, is_many, joins_of}
-use Rattle.live_sets.specs.Values.{has_mark, valued}
 use Rattle.live_sets.specs.Starts.{list_at}
 use Rattle.live_sets.specs.Ends.{AreFronts}
 use Rattle.live_sets.specs.Joins.{AddsJoins, AreJoins}
 use Rattle.live_sets.proofs.EdgeLemmas.{among_has}
 use Rattle.live_sets.proofs.EndLemmas.{no_marks}
+use Rattle.list_laws.proofs.Booleans.{and_false}
+use Rattle.list_laws.proofs.Ranges.{range_get}
+use Rattle.ir_ast.specs.Operands.{valued}
+use Rattle.ir_ast.specs.Lists.{has_mark}
 
 -- nothing is added where the pointer isn't wanted
 pub joins_none : (rows fronts : List (List ℕ)) (count : ℕ) (starts : List ℕ) (value : ValueId) (marks : List Bool) (wanted : Bool) (joins : List (Vec ValueId))
@@ -45,11 +48,6 @@ unmarked_at (suc n) (suc node) = unmarked_at n node
 where_wanted : (wanted found live : Bool) → (wanted ≡ true → found ≡ live) → (wanted && found) ≡ (wanted && live)
 where_wanted true found live is = is refl
 where_wanted false found live is = refl
-
-range_get : (from count k : ℕ) → k < count → slice_get (range_with_len from count) k ≡ Some (from + k)
-range_get from zero k below = absurd (omega arith)
-range_get from (suc count) zero below = let e : from ≡ from + 0 = omega arith in ap Some e
-range_get from (suc count) (suc k) below = let e : (from + 1) + k ≡ from + suc k = omega arith in range_get (from + 1) count k (omega arith) ∙ ap Some e
 
 pub front_at : (func : Function) (fronts : List (List ℕ)) (b : ℕ) → AreFronts func fronts → b < length func.blocks → get_or fronts b [] ≡ preds func b
 front_at func fronts b are below =
@@ -90,12 +88,8 @@ pub joins_all : (func : Function) (table : List Operand) (b i : ℕ) (joins : Li
     → joins ≡ map valued (filter (joins_of func table b) (take i (pointers func))) → joins ≡ map valued (filter (joins_of func table b) (pointers func))
 joins_all func table b i joins past so_far = so_far ∙ ap (λ (xs : List ℕ). map valued (filter (joins_of func table b) xs)) (take_all i (pointers func) past)
 
-pub both_false : (t : Bool) → (t && false) ≡ false
-both_false true = refl
-both_false false = refl
-
 pub none_wanted : (wanted : Bool) (node : ℕ) → (wanted && has_mark [] node) ≡ false
-none_wanted wanted node = both_false wanted
+none_wanted wanted node = and_false wanted
 
 -- a pointer without starts is live at no front
 pub none_marked : (rows fronts : List (List ℕ)) (count : ℕ) (starts : List ℕ) (value : ValueId) (wanted : Bool) (joins : List (Vec ValueId)) → length starts ≡ 0
@@ -103,7 +97,7 @@ pub none_marked : (rows fronts : List (List ℕ)) (count : ℕ) (starts : List �
 none_marked rows fronts count (x ∷ starts) value wanted joins none = absurd (omega (arith, none))
 none_marked rows fronts count [] value wanted joins none =
     joins_none rows fronts count [] value (replicate (length rows) false) wanted joins
-    (λ node. ap (λ (t : Bool). wanted && t) (unmarked_at (length rows) node) ∙ both_false wanted) (λ is. no_marks rows)
+    (λ node. ap (λ (t : Bool). wanted && t) (unmarked_at (length rows) node) ∙ and_false wanted) (λ is. no_marks rows)
 
 -- where no block has two or more edges into it, no pointer gets a phi
 pub none_joined : (func : Function) (table : List Operand) (joins : List (Vec ValueId)) → length joins ≡ length func.blocks → ((b : ℕ) → list_at joins b ≡ [])

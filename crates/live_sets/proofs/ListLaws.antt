@@ -24,25 +24,21 @@ use Rattle.object_meaning.specs.TargetRuns.{plain_lines}
 use Rattle.rewriting_forms.specs.Numbered.{among, lines_at, line_at, is_given, gives, is_call, pointers}
 use Rattle.rewriting_forms.specs.Liveness.{is_use, any_held, uses_here, live_lines, is_live, is_live_after, live_list, lists_from}
 use Rattle.rewriting_laws.proofs.NameLemmas.{line_is, among_filter, filter_among}
-use Rattle.live_sets.specs.Values.{has_mark, valued}
 use Rattle.live_sets.specs.Sets.{is_in, AreMarked, Changed, HasMembers}
 use Rattle.live_sets.specs.Uses.{names, uses, line_uses}
 use Rattle.live_sets.specs.Starts.{first_of}
 use Rattle.live_sets.specs.Ends.{lives_at_end}
 use Rattle.live_sets.specs.Lists.{items_of, is_held, AddsList, AddsBlock, AtPlace}
 use Rattle.ir_ast.specs.Blocks.{BasicBlock}
-use Rattle.rewriting_laws.proofs.LiveLaws.{drop_all}
-use Rattle.live_sets.proofs.NumberLemmas.{get_read, after_push}
-use Rattle.live_sets.proofs.UseLemmas.{uses_same, among_mark, line_get, lines_length, same_test}
+use Rattle.live_sets.proofs.UseLemmas.{uses_same, among_mark}
 use Rattle.live_sets.proofs.SetLemmas.{keys_are, filter_both}
 use Rattle.live_sets.proofs.EdgeLemmas.{among_has}
-
-any_same : {A : Type 0} (p q : A → Bool) (xs : List A) → ((x : A) → p x ≡ q x) → list_any p xs ≡ list_any q xs
-any_same p q [] same = refl
-any_same p q (x ∷ xs) same =
-    let here = same x in
-    let rest = any_same p q xs same in
-    rw (here, rest) refl
+use Rattle.object_meaning.proofs.LineLaws.{after_push, plain_at, plain_count}
+use Rattle.list_laws.proofs.Booleans.{same_tests}
+use Rattle.list_laws.proofs.Places.{get_read, drop_whole}
+use Rattle.list_laws.proofs.Tests.{any_same}
+use Rattle.ir_ast.specs.Operands.{valued}
+use Rattle.ir_ast.specs.Lists.{has_mark}
 
 filter_same : {A : Type 0} (p q : A → Bool) (xs : List A) → ((x : A) → Contains xs x → p x ≡ q x) → filter p xs ≡ filter q xs
 filter_same p q [] same = refl
@@ -88,7 +84,7 @@ module _ (func : Function) (table : List Operand) (marks : List Bool) (right : m
     -- a line, and those behind it
     pub lines_split : (place : ℕ) (inst : Instruction) → slice_get (insts_in func b) place ≡ Some inst
         → drop place lines ≡ numbered (after_all (first_of func b) (take place (insts_in func b))) inst ∷ drop (suc place) lines
-    lines_split place inst at = split lines place (numbered (after_all (first_of func b) (take place (insts_in func b))) inst) (line_get (first_of func b) (insts_in func b) place inst at)
+    lines_split place inst at = split lines place (numbered (after_all (first_of func b) (take place (insts_in func b))) inst) (plain_at (first_of func b) (insts_in func b) place inst at)
       where
         split : (xs : List Line) (k : ℕ) (x : Line) → slice_get xs k ≡ Some x → drop k xs ≡ x ∷ drop (suc k) xs
         split [] k x is = absurd (cc)
@@ -126,7 +122,7 @@ module _ (func : Function) (table : List Operand) (marks : List Bool) (right : m
             → (is_in set v && not (names to v)) ≡ (is_live_after func table b place v && not (gives (line_at func b place) v))
         one v pointer =
             let line = numbered (after_all (first_of func b) (take place (insts_in func b))) inst in
-            let stands = line_get (first_of func b) (insts_in func b) place inst at in
+            let stands = plain_at (first_of func b) (insts_in func b) place inst at in
             let here = line_is func b place line stands in
             let below = slice_get_within lines place line stands in
             let within : leb (suc place) (length lines) ≡ true = le-leb (suc place) (length lines) (omega arith) in
@@ -220,15 +216,15 @@ module _ (func : Function) (table : List Operand) (marks : List Bool) (right : m
     pub begun : (values : List ValueId) (set : BTreeSet ℕ) (old : List (Vec ValueId)) → values ≡ map valued (filter (lives_at_end func table b) (pointers func))
         → HasMembers marks values set → AtPlace func table marks b (length (insts_in func b)) set old old
     begun values set old are has =
-        let long : length lines ≡ length (insts_in func b) = lines_length (first_of func b) (insts_in func b) in
+        let long : length lines ≡ length (insts_in func b) = plain_count (first_of func b) (insts_in func b) in
         record {
           live = λ v pointer.
               has.each v pointer
               ∙ ap (list_any (λ (value : ValueId). eqb value.0 v)) are ∙ any_valued v (filter (lives_at_end func table b) (pointers func))
-              ∙ same_test (among v (filter (lives_at_end func table b) (pointers func))) (lives_at_end func table b v)
+              ∙ same_tests (among v (filter (lives_at_end func table b) (pointers func))) (lives_at_end func table b v)
               (λ is. (among_filter (lives_at_end func table b) v (pointers func) is).1)
               (λ is. filter_among (lives_at_end func table b) v (pointers func) (among_mark func marks right v ∙ pointer) is)
-              ∙ sym (ap (λ (n : ℕ). live_lines func table v (lives_at_end func table b v) (drop n lines)) (sym long) ∙ ap (live_lines func table v (lives_at_end func table b v)) (drop_all lines));
+              ∙ sym (ap (λ (n : ℕ). live_lines func table v (lives_at_end func table b v) (drop n lines)) (sym long) ∙ ap (live_lines func table v (lives_at_end func table b v)) (drop_whole lines));
           marked = has.marked;
           listed =
               sym (append-nil (items_of old))
@@ -294,7 +290,3 @@ blocks_back func table number old new below so_far added =
     ∙ sym (reverse-append (map (map valued) (each number)) (map (map valued) (flat_map each rest)))
     ∙ ap reverse (sym (map-append (map valued) (each number) (flat_map each rest)))
     ∙ sym (ap (λ (bs : List ℕ). reverse (map (map valued) (flat_map each bs))) range)
-
-pub taken_whole : {A : Type 0} (xs : List A) → take (length xs) xs ≡ xs
-taken_whole [] = refl
-taken_whole (x ∷ xs) = ap (λ (ys : List _). x ∷ ys) (taken_whole xs)

@@ -19,24 +19,26 @@ use Rattle.ir_ast.specs.Funcs.{Function}
 use Rattle.ir_ast.specs.Types.{is_pointer}
 use Rattle.ir_ast.specs.Values.{value_types}
 use Rattle.ir_ast.specs.Faults.PhiEdges.{is_phi, PhisAreRight}
-use Rattle.list_laws.proofs.Places.{split_at, get_map}
+use Rattle.list_laws.proofs.Places.{split_at, get_map, drop_whole, take_whole}
 use Rattle.list_laws.proofs.Contents.{contains_get, get_contained, contains_one, contains_map, contains_joined, joined_contains, contains_image}
 use Rattle.object_meaning.specs.Lines.{Line, after_all, numbered, first_registers, registers_of, insts_in}
 use Rattle.graph_search.specs.Edges.{Edge, targets_of, AreInside}
 use Rattle.graph_search.specs.Paths.{ReachedFrom, at_start, along, MarksReached}
 use Rattle.rewriting_forms.specs.Numbered.{lines_at, gives, preds}
 use Rattle.rewriting_forms.specs.Liveness.{IsUse, PhisAgree, Live, used, held, later, entry, crosses, is_live, live_front, live_lines}
-use Rattle.rewriting_laws.proofs.LiveLaws.{drop_all}
 use Rattle.rewriting_laws.proofs.LiveExact.{use_is, use_from, over_sound, front_sound, live_sound, live_complete}
-use Rattle.live_sets.specs.Values.{has_mark}
 use Rattle.live_sets.specs.Uses.{uses}
 use Rattle.live_sets.specs.declared.starts.Spot.{Spot}
 use Rattle.live_sets.specs.Starts.{is_given, first_of, starts_in, starts_of}
 use Rattle.live_sets.specs.Ends.{gives_in, backward_rows, lives_at_end}
-use Rattle.live_sets.proofs.UseLemmas.{uses_same, same_test, line_get, line_back, lines_length, given_between, between_given}
+use Rattle.live_sets.proofs.UseLemmas.{uses_same, line_back, given_between, between_given}
 use Rattle.live_sets.proofs.EndLemmas.{rows_length, row_of_end, row_of_front, row_behind}
 use Rattle.live_sets.proofs.Walks.{UsesAt, by_operand, by_bundle, EntryAt, line_back_adds, line_forth_entry, line_forth_use, block_back, block_forth}
-use Rattle.live_sets.proofs.EdgeLemmas.{pred_succ, succ_pred, succ_within, range_has, label_edge}
+use Rattle.live_sets.proofs.EdgeLemmas.{pred_succ, succ_pred, succ_within, label_edge}
+use Rattle.object_meaning.proofs.LineLaws.{plain_at, plain_count}
+use Rattle.list_laws.proofs.Booleans.{same_tests}
+use Rattle.list_laws.proofs.Ranges.{range_contains}
+use Rattle.ir_ast.specs.Lists.{has_mark}
 
 -- the number behind a block is the first of the next
 next_first : (next : ℕ) (blocks : List BasicBlock) (b : ℕ) (block : BasicBlock) → slice_get blocks b ≡ Some block
@@ -54,10 +56,6 @@ none_inst = record { result = None; op = Br; ty = Void; operands = []; labels = 
 
 abbrev none_block : BasicBlock
 none_block = record { name = []; insts = [] }
-
-taken_all : {A : Type 0} (xs : List A) → take (length xs) xs ≡ xs
-taken_all [] = refl
-taken_all (x ∷ xs) = ap (λ (ys : List _). x ∷ ys) (taken_all xs)
 
 module _ (func : Function) (table : List Operand) (marks : List Bool) (right : marks ≡ map is_pointer (value_types func)) (phis : PhisAreRight func)
     (v : ℕ) (pointer : has_mark marks v ≡ true) where
@@ -103,7 +101,7 @@ module _ (func : Function) (table : List Operand) (marks : List Bool) (right : m
   walk_up b zero walk within free = walk
   walk_up b (suc k) walk within free =
       let inst = slice_get-get_or (insts_in func b) k none_inst (omega arith) in
-      let line = line_get (first_of func b) (insts_in func b) k (get_or (insts_in func b) k none_inst) inst in
+      let line = plain_at (first_of func b) (insts_in func b) k (get_or (insts_in func b) k none_inst) inst in
       walk_up b k (later b k (numbered (after_all (first_of func b) (take k (insts_in func b))) (get_or (insts_in func b) k none_inst)) line
       (free k (numbered (after_all (first_of func b) (take k (insts_in func b))) (get_or (insts_in func b) k none_inst)) (omega arith) line) walk)
       (omega arith) (λ j other before at. free j other (omega arith) at)
@@ -160,9 +158,9 @@ module _ (func : Function) (table : List Operand) (marks : List Bool) (right : m
 
   uses_live : (b k : ℕ) (inst : Instruction) → slice_get (insts_in func b) k ≡ Some inst → UsesAt marks table v inst → Live func table v b k
   uses_live b k inst at (by_operand o other has is) =
-      used b k (numbered (after_all (first_of func b) (take k (insts_in func b))) inst) o (line_get (first_of func b) (insts_in func b) k inst at) other has (use_of o is)
+      used b k (numbered (after_all (first_of func b) (take k (insts_in func b))) inst) o (plain_at (first_of func b) (insts_in func b) k inst at) other has (use_of o is)
   uses_live b k inst at (by_bundle e has is) =
-      held b k (numbered (after_all (first_of func b) (take k (insts_in func b))) inst) e.1 (line_get (first_of func b) (insts_in func b) k inst at)
+      held b k (numbered (after_all (first_of func b) (take k (insts_in func b))) inst) e.1 (plain_at (first_of func b) (insts_in func b) k inst at)
       (contains_map (λ (entry : Ty × Operand). entry.1) inst.bundle e has) (use_of e.1 is)
 
   start_sound : (node : ℕ) → Contains starts node → IsSound node
@@ -181,7 +179,7 @@ module _ (func : Function) (table : List Operand) (marks : List Bool) (right : m
             record {
               at_end = λ inside. subst (λ (n : ℕ). Live func table v n (length (lines_at func n))) (sym node_is)
                   (entry one.label.0 (length (lines_at func one.label.0)) b line.place (numbered (after_all (first_of func b) (take line.place (insts_in func b))) line.inst) one.operand refl edge
-                  (line_get (first_of func b) (insts_in func b) line.place line.inst line.at) one.phi
+                  (plain_at (first_of func b) (insts_in func b) line.place line.inst line.at) one.phi
                   (record { place = one.place; label = ap (λ (l : Option BlockId). option_map_or (λ (l : BlockId). eqb l.0 one.label.0) l false) one.label_is ∙ eq-eqb one.label.0 one.label.0 refl; operand_is = one.operand_is })
                   (use_of one.operand one.uses_it));
               at_front = λ other is. absurd (omega (arith, is, node_is, label_below));
@@ -217,8 +215,8 @@ module _ (func : Function) (table : List Operand) (marks : List Bool) (right : m
           go false free at =
               let l = fronts_length in
               let to_is : length fronts + from ≡ to = contains_one (length fronts + from) to (contains_get ((length fronts + from) ∷ []) edge.number to at) in
-              let lines = lines_length (first_of func from) (insts_in func from) in
-              let all : take (length (lines_at func from)) (insts_in func from) ≡ insts_in func from = ap (λ (n : ℕ). take n (insts_in func from)) lines ∙ taken_all (insts_in func from) in
+              let lines = plain_count (first_of func from) (insts_in func from) in
+              let all : take (length (lines_at func from)) (insts_in func from) ≡ insts_in func from = ap (λ (n : ℕ). take n (insts_in func from)) lines ∙ take_whole (insts_in func from) in
               let here = walk_up from (length (lines_at func from)) (sound.at_end below) (omega (arith, lines))
               (λ j other before at. none_before from (length (lines_at func from)) j other
               (λ low high. free_block from below free low (subst (λ (is : List Instruction). v < after_all (first_of func from) is) all high)) before at) in
@@ -266,14 +264,14 @@ module _ (func : Function) (table : List Operand) (marks : List Bool) (right : m
       let below = block_within b is.place is.inst is.at in
       let spot : Spot = record { node = count + b; first = first_of func b; next = after_all (first_of func b) (take is.place (insts_in func b)) } in
       let free : is_given spot v ≡ false = free_spot in
-      at_start (count + b) (joined_contains (starts_in func marks table v) (range_with_len 0 count) b (count + b) (range_has count b below)
+      at_start (count + b) (joined_contains (starts_in func marks table v) (range_with_len 0 count) b (count + b) (range_contains count b below)
       (block_forth marks table v pointer (count + b) (first_of func b) (first_of func b) (insts_in func b) is.place (count + b) is.inst is.at
       (line_forth_use marks table v pointer spot is.inst is.uses_it free)))
     where
       given_lines : first_of func b ≤ v → v < after_all (first_of func b) (take is.place (insts_in func b)) → ⊥
       given_lines low high =
           let g = between_given (first_of func b) (insts_in func b) is.place v low high in
-          let none = is.free g.place (numbered (after_all (first_of func b) (take g.place (insts_in func b))) g.inst) (omega arith) g.before (line_get (first_of func b) (insts_in func b) g.place g.inst g.at) in
+          let none = is.free g.place (numbered (after_all (first_of func b) (take g.place (insts_in func b))) g.inst) (omega arith) g.before (plain_at (first_of func b) (insts_in func b) g.place g.inst g.at) in
           false≢true (sym none ∙ g.is)
 
       free_spot : (nat_le (first_of func b) v && nat_lt v (after_all (first_of func b) (take is.place (insts_in func b)))) ≡ false
@@ -297,11 +295,11 @@ module _ (func : Function) (table : List Operand) (marks : List Bool) (right : m
       given : slice_index (registers_of func) b ≤ v → v < slice_index (registers_of func) (b + 1) → ⊥
       given up high =
           let number = end_number b below in
-          let whole : take (length (insts_in func b)) (insts_in func b) ≡ insts_in func b = taken_all (insts_in func b) in
+          let whole : take (length (insts_in func b)) (insts_in func b) ≡ insts_in func b = take_whole (insts_in func b) in
           let low : v < after_all (first_of func b) (take (length (insts_in func b)) (insts_in func b)) =
           subst (λ (is : List Instruction). v < after_all (first_of func b) is) (sym whole) (omega (arith, number, high)) in
           let g = between_given (first_of func b) (insts_in func b) (length (insts_in func b)) v up low in
-          let none = free g.place (numbered (after_all (first_of func b) (take g.place (insts_in func b))) g.inst) (omega arith) (line_get (first_of func b) (insts_in func b) g.place g.inst g.at) in
+          let none = free g.place (numbered (after_all (first_of func b) (take g.place (insts_in func b))) g.inst) (omega arith) (plain_at (first_of func b) (insts_in func b) g.place g.inst g.at) in
           false≢true (sym none ∙ g.is)
 
   -- from a front at which the pointer is live a walk comes to the ends of the blocks before
@@ -379,7 +377,7 @@ module _ (func : Function) (table : List Operand) (marks : List Bool) (right : m
       let spot : Spot = record { node = count + to; first = first_of func to; next = after_all (first_of func to) (take place (insts_in func to)) } in
       inr (
         λ j other low stands. (let w = slice_get_within (lines_at func b) j other stands in absurd (omega (arith, w, low, last))),
-        at_start b (joined_contains (starts_in func marks table v) (range_with_len 0 count) to b (range_has count to below)
+        at_start b (joined_contains (starts_in func marks table v) (range_with_len 0 count) to b (range_contains count to below)
             (block_forth marks table v pointer (count + to) (first_of func to) (first_of func to) (insts_in func to) place b inst.0 inst.1
             (line_forth_entry marks table v pointer spot inst.0 b (subst (λ (i : Instruction). EntryAt marks table v i b) inst.2 entry_at)))),
       )
@@ -397,7 +395,7 @@ module _ (func : Function) (table : List Operand) (marks : List Bool) (right : m
 
   pub ends_reached : (b : ℕ) → Live func table v b (length (lines_at func b)) → ReachedFrom rows starts b
   ends_reached b walk = elim (complete b (length (lines_at func b)) walk) [
-    | inl is ↦ (let lines = lines_length (first_of func b) (insts_in func b) in let w = slice_get_within (insts_in func b) is.place is.inst is.at in let f = is.from in absurd (omega (arith, lines, w, f)))
+    | inl is ↦ (let lines = plain_count (first_of func b) (insts_in func b) in let w = slice_get_within (insts_in func b) is.place is.inst is.at in let f = is.from in absurd (omega (arith, lines, w, f)))
     | inr both ↦ both.1
   ]
 
@@ -417,12 +415,12 @@ module _ (func : Function) (table : List Operand) (marks : List Bool) (right : m
       ∙ ap (λ (i : Instruction). slice_get i.operands k) (sym inst.2)
 
   pub marks_are : (found : List Bool) (b : ℕ) → MarksReached rows starts found → b < count → has_mark found b ≡ lives_at_end func table b v
-  marks_are found b search below = same_test (has_mark found b) (lives_at_end func table b v)
+  marks_are found b search below = same_tests (has_mark found b) (lives_at_end func table b v)
       (λ is.
       let walk = (reached_sound b (search.sound b (marked is))).at_end below in
       let parts = and_parts (leb (length (lines_at func b)) (length (lines_at func b))) (live_lines func table v (lives_at_end func table b v) (drop (length (lines_at func b)) (lines_at func b)))
       (live_complete func table v agree b (length (lines_at func b)) walk) in
-      sym (ap (live_lines func table v (lives_at_end func table b v)) (drop_all (lines_at func b))) ∙ parts.1)
+      sym (ap (live_lines func table v (lives_at_end func table b v)) (drop_whole (lines_at func b))) ∙ parts.1)
       (λ is.
       get_or_from_slice_get found b true false (search.complete b (ends_reached b (over_sound func table v (live_front func table v count) (front_sound func table v count) b is))))
     where
@@ -435,7 +433,7 @@ module _ (func : Function) (table : List Operand) (marks : List Bool) (right : m
 
   -- those of the fronts
   pub front_marks_are : (found : List Bool) (b : ℕ) → MarksReached rows starts found → b < count → has_mark found (count + b) ≡ is_live func table b 0 v
-  front_marks_are found b search below = same_test (has_mark found (count + b)) (is_live func table b 0 v)
+  front_marks_are found b search below = same_tests (has_mark found (count + b)) (is_live func table b 0 v)
       (λ is. live_complete func table v agree b 0 ((reached_sound (count + b) (search.sound (count + b) (marked is))).at_front b refl))
       (λ is. get_or_from_slice_get found (count + b) true false (search.complete (count + b) (fronts_reached b (live_sound func table v b 0 is))))
     where

@@ -18,9 +18,12 @@ use Rattle.ir_ast.specs.Types.{is_pointer}
 use Rattle.ir_ast.specs.Values.{value_types}
 use Rattle.rewriting_forms.specs.Numbered.{among, pointers}
 use Rattle.rewriting_laws.proofs.NameLemmas.{among_filter, filter_among}
-use Rattle.live_sets.specs.Values.{has_mark, valued}
 use Rattle.live_sets.specs.Sets.{is_in, AreMarked, Changed}
-use Rattle.live_sets.proofs.UseLemmas.{same_test, among_mark}
+use Rattle.live_sets.proofs.UseLemmas.{among_mark}
+use Rattle.list_laws.proofs.Booleans.{same_tests}
+use Rattle.list_laws.proofs.Tests.{any_same}
+use Rattle.ir_ast.specs.Operands.{valued}
+use Rattle.ir_ast.specs.Lists.{has_mark}
 
 -- numbers are equal where their order says so
 pub number_at : (k q : ℕ) → is_eq (nat_cmp k q) ≡ eqb k q
@@ -32,13 +35,6 @@ number_at k q = elim (cases_lt k q) [
     go : (t : Bool) → is_eq (cond t Equal Greater) ≡ t
     go true = refl
     go false = refl
-
-any_same : {A : Type 0} (p q : A → Bool) (xs : List A) → ((x : A) → p x ≡ q x) → list_any p xs ≡ list_any q xs
-any_same p q [] same = refl
-any_same p q (x ∷ xs) same =
-    let here = same x in
-    let rest = any_same p q xs same in
-    rw (here, rest) refl
 
 same_both : (a b : ℕ) → eqb a b ≡ eqb b a
 same_both a b = elim (cases_eq a b) [ inl e ↦ rw e refl | inr ne ↦ ne_eqb a b ne ∙ sym (ne_eqb b a (λ e. ne (sym e))) ]
@@ -57,15 +53,6 @@ put_one marks k old new marked are = record {
     | inl same ↦ ap (has_mark marks) (sym (eqb-true k v same)) ∙ marked
     | inr other ↦ were v (sym (are v ∙ ap (λ (t : Bool). if t then true else is_in old v) (number_at k v ∙ other)) ∙ is)
   ];
-}
-
-pub put_none : (marks : List Bool) (k : ℕ) (set : BTreeSet ℕ) → has_mark marks k ≡ false → Changed marks set set (λ (v : ℕ) (old : Bool). if eqb k v then true else old)
-put_none marks k set none = record {
-  each = λ v pointer. elim (cases_eq k v) [
-    | inl same ↦ absurd (false≢true (sym none ∙ ap (has_mark marks) same ∙ pointer))
-    | inr other ↦ sym (ap (λ (t : Bool). if t then true else is_in set v) (ne_eqb k v other))
-  ];
-  marked = λ were. were;
 }
 
 pub take_one : (marks : List Bool) (k : ℕ) (old new : BTreeSet ℕ)
@@ -144,7 +131,7 @@ keys_are func marks right set are ordered =
   where
     same : (q : ℕ) → contains nat_cmp set q ≡ contains nat_cmp (record { keys = filter (is_in set) (pointers func) }) q
     same q =
-        same_test (is_in set q) (among q (filter (is_in set) (pointers func)))
+        same_tests (is_in set q) (among q (filter (is_in set) (pointers func)))
         (λ is. filter_among (is_in set) q (pointers func) (among_mark func marks right q ∙ are q is) is)
         (λ is. (among_filter (is_in set) q (pointers func) is).1)
         ∙ sym (in_among (record { keys = filter (is_in set) (pointers func) }) q)

@@ -15,8 +15,8 @@ use Rattle.ir_ast.specs.Blocks.{BasicBlock}
 use Rattle.ir_ast.specs.Funcs.{Function}
 use Rattle.object_meaning.specs.Lines.{following, after_all, insts_in}
 use Rattle.live_sets.specs.Starts.{list_at, Grown, GrownAt, entry_adds, entries_add, adds, at_end, line_adds, block_adds, first_of, starts_in}
-use Rattle.live_sets.proofs.NumberLemmas.{get_read}
-use Rattle.live_sets.proofs.ValueLemmas.{range_more}
+use Rattle.list_laws.proofs.Ranges.{range_more}
+use Rattle.list_laws.proofs.Places.{get_read}
 
 at_same : {A : Type 0} (lists : List (Vec A)) (place : ℕ) (new : Vec A) → place < length lists → list_at (slice_set lists place new) place ≡ new.items
 at_same [] place new below = absurd (omega arith)

@@ -18,13 +18,11 @@ use Rattle.object_meaning.specs.TargetRuns.{plain_lines}
 use Rattle.rewriting_forms.specs.Numbered.{among, gives, pointers, base_at}
 use Rattle.rewriting_forms.specs.Liveness.{is_use, is_value}
 use Rattle.rewriting_laws.proofs.NameLemmas.{among_filter, filter_among}
-use Rattle.live_sets.specs.Values.{has_mark}
-use Rattle.live_sets.specs.Uses.{value_named, other_than, names, uses}
-
-pub same_test : (a b : Bool) → (a ≡ true → b ≡ true) → (b ≡ true → a ≡ true) → a ≡ b
-same_test true b forth back = sym (forth refl)
-same_test false true forth back = absurd (false≢true (back refl))
-same_test false false forth back = refl
+use Rattle.live_sets.specs.Uses.{other_than, names, uses}
+use Rattle.object_meaning.proofs.LineLaws.{after_up}
+use Rattle.list_laws.proofs.Booleans.{same_tests}
+use Rattle.ir_ast.specs.Lists.{has_mark}
+use Rattle.ir_ast.specs.Operands.{value_named}
 
 among_range : (a n x : ℕ) → a ≤ x → x < a + n → among x (range_with_len a n) ≡ true
 among_range a zero x low high = absurd (omega arith)
@@ -50,7 +48,7 @@ module _ (func : Function) (marks : List Bool) (right : marks ≡ map is_pointer
       go (Some ty) at is = slice_get_within (value_types func) x ty at
 
   pub among_mark : (x : ℕ) → among x (pointers func) ≡ has_mark marks x
-  among_mark x = same_test (among x (pointers func)) (has_mark marks x)
+  among_mark x = same_tests (among x (pointers func)) (has_mark marks x)
       (λ is. sym (pointer_at x) ∙ (among_filter (λ (v : ℕ). option_map_or is_pointer (slice_get (value_types func) v) false) x (range_with_len 0 (length (value_types func))) is).1)
       (λ is. filter_among (λ (v : ℕ). option_map_or is_pointer (slice_get (value_types func) v) false) x (range_with_len 0 (length (value_types func)))
       (among_range 0 (length (value_types func)) x (omega arith) (let below = marked_within x is in omega arith)) (pointer_at x ∙ is))
@@ -82,12 +80,6 @@ module _ (func : Function) (marks : List Bool) (right : marks ≡ map is_pointer
 
 -- ---- lines by their instructions
 
-pub line_get : (n : ℕ) (insts : List Instruction) (k : ℕ) (inst : Instruction) → slice_get insts k ≡ Some inst
-    → slice_get (plain_lines n insts) k ≡ Some (numbered (after_all n (take k insts)) inst)
-line_get n [] k inst is = absurd (cc)
-line_get n (x ∷ insts) zero inst is = let e : x ≡ inst = cc in ap (λ (y : Instruction). Some (numbered n y)) e
-line_get n (x ∷ insts) (suc k) inst is = line_get (following n x) insts k inst is
-
 pub record FromInst (n : ℕ) (insts : List Instruction) (k : ℕ) (line : Line) : Type 0 where
   pub inst : Instruction
   pub at : slice_get insts k ≡ Some inst
@@ -98,18 +90,10 @@ line_back n [] k line is = absurd (cc)
 line_back n (x ∷ insts) zero line is = record { inst = x; at = refl; is = (let e : numbered n x ≡ line = cc in sym e) }
 line_back n (x ∷ insts) (suc k) line is = let rest = line_back (following n x) insts k line is in record { inst = rest.inst; at = rest.at; is = rest.is }
 
-pub lines_length : (n : ℕ) (insts : List Instruction) → length (plain_lines n insts) ≡ length insts
-lines_length n [] = refl
-lines_length n (x ∷ insts) = ap suc (lines_length (following n x) insts)
-
 -- ---- what is given before a line of a block
 
 following_up : (n : ℕ) (inst : Instruction) → n ≤ following n inst
 following_up n inst = elim (cases_Bool (is_some inst.result)) [ inl some ↦ rw some (omega arith) | inr none ↦ rw none (omega arith) ]
-
-pub after_up : (n : ℕ) (insts : List Instruction) → n ≤ after_all n insts
-after_up n [] = omega arith
-after_up n (x ∷ insts) = let here = following_up n x in let rest = after_up (following n x) insts in omega (arith, here, rest)
 
 gives_number : (n v : ℕ) (inst : Instruction) → gives (numbered n inst) v ≡ true → (is_some inst.result ≡ true) × (n ≡ v)
 gives_number n v inst is = elim (cases_Bool (is_some inst.result)) [

@@ -10,16 +10,10 @@ use Rattle.ir_ast.specs.Insts.{Instruction}
 use Rattle.ir_ast.specs.Funcs.{Function, instructions_of}
 use Rattle.ir_ast.specs.Types.{is_pointer}
 use Rattle.ir_ast.specs.Values.{Definition, argument, outcome, definition_type, value_types}
-use Rattle.live_sets.specs.Values.{has_mark, result_is_pointer, valued}
-
-pub range_more : (a n : ℕ) → range_with_len a (n + 1) ≡ range_with_len a n ++ (a + n) ∷ []
-range_more a n = let e : n + 1 ≡ suc n = omega arith in ap (range_with_len a) e ∙ last a n
-  where
-    last : (a n : ℕ) → range_with_len a (suc n) ≡ range_with_len a n ++ (a + n) ∷ []
-    last a zero = let e : a ≡ a + 0 = omega arith in ap (λ (x : ℕ). x ∷ []) e
-    last a (suc n) =
-        let e : (a + 1) + n ≡ a + suc n = omega arith in
-        ap (λ (xs : List ℕ). a ∷ xs) (last (a + 1) n) ∙ ap (λ (x : ℕ). a ∷ range_with_len (a + 1) n ++ x ∷ []) e
+use Rattle.live_sets.specs.Values.{result_is_pointer}
+use Rattle.list_laws.proofs.Ranges.{range_more}
+use Rattle.ir_ast.specs.Operands.{valued}
+use Rattle.ir_ast.specs.Lists.{has_mark}
 
 pub marked_more : (marks : List Bool) (number : ℕ) (values new : List ValueId)
     → values ≡ map valued (filter (has_mark marks) (range_with_len 0 number))

@@ -10,10 +10,10 @@ use Rattle.ir_ast.specs.Insts.{Instruction}
 use Rattle.ir_ast.specs.Faults.PhiEdges.{is_phi}
 use Rattle.list_laws.proofs.Contents.{contains_none, contains_first, contains_one, contains_joined, joined_contains}
 use Rattle.object_meaning.specs.Lines.{following, after_all}
-use Rattle.live_sets.specs.Values.{has_mark}
 use Rattle.live_sets.specs.Uses.{uses}
 use Rattle.live_sets.specs.declared.starts.Spot.{Spot}
 use Rattle.live_sets.specs.Starts.{is_given, adds, at_end, entries_add, own_adds, line_adds, block_adds}
+use Rattle.ir_ast.specs.Lists.{has_mark}
 
 -- ---- what a start stands for
 

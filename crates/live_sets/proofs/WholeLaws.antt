@@ -16,9 +16,10 @@ use Rattle.ir_ast.specs.Types.{is_pointer}
 use Rattle.ir_ast.specs.Values.{argument, outcome, definition_type, definitions_of, value_types}
 use Rattle.rewriting_forms.specs.Numbered.{is_call, lines_at, pointers}
 use Rattle.rewriting_forms.specs.Liveness.{lists_from, live_lists}
-use Rattle.live_sets.specs.Values.{has_mark, valued}
 use Rattle.live_sets.specs.Lists.{items_of}
 use Rattle.live_sets.proofs.UseLemmas.{pointer_at}
+use Rattle.ir_ast.specs.Operands.{valued}
+use Rattle.ir_ast.specs.Lists.{has_mark}
 
 few_results : (insts : List Instruction) → length (filter (λ (inst : Instruction). is_some inst.result) insts) ≤ length insts
 few_results [] = omega arith
@@ -26,16 +27,6 @@ few_results (inst ∷ insts) = elim (cases_Bool (is_some inst.result)) [
   | inl some ↦ (let rest = few_results insts in rw some (omega (arith, rest)))
   | inr none ↦ (let rest = few_results insts in rw none (omega (arith, rest)))
 ]
-
-pub few_values : (func : Function) → length (value_types func) ≤ length func.args + length (instructions_of func.blocks)
-few_values func =
-    let results = filter (λ (inst : Instruction). is_some inst.result) (instructions_of func.blocks) in
-    let all = length-map (definitions_of func) definition_type in
-    let split = length-append (map argument func.args) (map outcome results) in
-    let args = length-map func.args argument in
-    let outcomes = length-map results outcome in
-    let few = few_results (instructions_of func.blocks) in
-    omega (arith, all, split, args, outcomes, few)
 
 same_filter : (p q : ℕ → Bool) (xs : List ℕ) → ((x : ℕ) → p x ≡ q x) → filter p xs ≡ filter q xs
 same_filter p q [] same = refl

@@ -9,8 +9,9 @@ use Rattle.ir_cfg.specs.Graphs.{Graph, preds_of}
 use Rattle.graph_search.specs.Paths.{MarksReached}
 use Rattle.rewriting_forms.specs.Numbered.{pointers, preds, succs}
 use Rattle.rewriting_forms.specs.Liveness.{live_over, live_front}
-use Rattle.live_sets.specs.Values.{has_mark, valued}
 use Rattle.live_sets.specs.Starts.{list_at}
+use Rattle.ir_ast.specs.Operands.{valued}
+use Rattle.ir_ast.specs.Lists.{has_mark}
 
 -- ---- the graph of places
 

@@ -7,8 +7,9 @@ use Rattle.ir_ast.specs.Funcs.{Function}
 use Rattle.graph_search.specs.Paths.{MarksReached}
 use Rattle.rewriting_forms.specs.Numbered.{pointers}
 use Rattle.rewriting_forms.specs.Names.{stands_in_list, is_many, joins_of}
-use Rattle.live_sets.specs.Values.{has_mark, valued}
 use Rattle.live_sets.specs.Starts.{list_at}
+use Rattle.ir_ast.specs.Operands.{valued}
+use Rattle.ir_ast.specs.Lists.{has_mark}
 
 -- the values that stand in the live list of some call are marked
 pub record AreListed (func : Function) (table : List Operand) (listed : List Bool) : Type 0 where

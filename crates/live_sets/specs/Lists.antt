@@ -11,10 +11,11 @@ use Rattle.ir_ast.specs.Insts.{Instruction}
 use Rattle.ir_ast.specs.Funcs.{Function}
 use Rattle.rewriting_forms.specs.Numbered.{is_call, lines_at}
 use Rattle.rewriting_forms.specs.Liveness.{live_lines, lists_from}
-use Rattle.live_sets.specs.Values.{has_mark, valued}
 use Rattle.live_sets.specs.Ends.{lives_at_end}
 use Rattle.live_sets.specs.Sets.{is_in, AreMarked, Changed}
 use Rattle.live_sets.specs.Uses.{names, uses}
+use Rattle.ir_ast.specs.Operands.{valued}
+use Rattle.ir_ast.specs.Lists.{has_mark}
 
 abbrev pub items_of : List (Vec ValueId) → List (List ValueId)
 items_of lists = map (λ list. list.items) lists

@@ -4,7 +4,7 @@ use Rattle.std.specs.List.{list_any}
 use Rattle.std.specs.Ordering.{nat_cmp}
 use Rattle.std.specs.BTreeSet.{BTreeSet, contains}
 use Rattle.sp_ids.specs.declared.ids.ValueId.{ValueId}
-use Rattle.live_sets.specs.Values.{has_mark}
+use Rattle.ir_ast.specs.Lists.{has_mark}
 
 abbrev pub is_in : BTreeSet ℕ → ℕ → Bool
 is_in set v = contains nat_cmp set v

@@ -11,8 +11,8 @@ use Rattle.ir_ast.specs.Funcs.{Function}
 use Rattle.ir_ast.specs.Faults.PhiEdges.{is_phi}
 use Rattle.object_meaning.specs.Lines.{following, registers_of, insts_in}
 use Rattle.live_sets.specs.declared.starts.Spot.{Spot}
-use Rattle.live_sets.specs.Values.{has_mark}
 use Rattle.live_sets.specs.Uses.{names, uses}
+use Rattle.ir_ast.specs.Lists.{has_mark}
 
 -- the value is given before in the block
 abbrev pub is_given : Spot → ℕ → Bool

@@ -9,11 +9,8 @@ use Rattle.ir_ast.specs.Insts.{Instruction}
 use Rattle.ir_ast.specs.Faults.PhiEdges.{is_phi}
 use Rattle.rewriting_forms.specs.Numbered.{base_at}
 use Rattle.live_sets.specs.declared.uses.Uses.{Uses}
-use Rattle.live_sets.specs.Values.{has_mark}
-
-abbrev pub value_named : Operand → Option ValueId
-value_named (Value value) = Some value
-value_named _ = None
+use Rattle.ir_ast.specs.Lists.{has_mark}
+use Rattle.ir_ast.specs.Operands.{value_named}
 
 abbrev pub other_than : ValueId → Option ValueId → Option ValueId
 other_than value None = None

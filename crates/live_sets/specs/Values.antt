@@ -5,11 +5,5 @@ use Rattle.ir_ast.specs.Insts.{Instruction}
 use Rattle.ir_ast.specs.Types.{is_pointer}
 use Rattle.ir_ast.specs.Values.{outcome_type}
 
-abbrev pub has_mark : List Bool → ℕ → Bool
-has_mark marks value = slice_index_or marks value false
-
 abbrev pub result_is_pointer : Instruction → Bool
 result_is_pointer inst = is_pointer (outcome_type inst.op inst.ty)
-
-abbrev pub valued : ℕ → ValueId
-valued number = record { 0 = number }

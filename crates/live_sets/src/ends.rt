@@ -10,9 +10,10 @@ ghost use Rattle.ir_ast.specs.Types.{is_pointer};
 ghost use Rattle.ir_ast.specs.Values.{value_types};
 ghost use Rattle.rewriting_forms.specs.Numbered.{pointers, succs};
 ghost use Rattle.rewriting_forms.specs.Names.{is_many};
-ghost use Rattle.live_sets.specs.Values.{has_mark, valued};
 ghost use Rattle.live_sets.specs.Starts.{list_at, GrownAt, AreStarts};
 ghost use Rattle.live_sets.specs.Ends.{fronts_of, rows_of, GrownWhere, gives_in, AddsEnds, AreEnds};
+ghost use Rattle.ir_ast.specs.Operands.{valued};
+ghost use Rattle.ir_ast.specs.Lists.{has_mark};
 
 use crate::starts::{add_to, empty_lists, starts};
 use crate::values::{is_marked, marked};

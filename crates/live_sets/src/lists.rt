@@ -13,12 +13,12 @@ ghost use Rattle.ir_cfg.specs.Graphs.{graph_of};
 ghost use Rattle.object_meaning.specs.Lines.{following, numbered, insts_in};
 ghost use Rattle.rewriting_forms.specs.Numbered.{is_call, pointers, lines_at};
 ghost use Rattle.rewriting_forms.specs.Liveness.{lists_from, live_lists};
-ghost use Rattle.live_sets.specs.Values.{valued};
 ghost use Rattle.live_sets.specs.Sets.{Changed, HasMembers};
 ghost use Rattle.live_sets.specs.Uses.{names, uses};
 ghost use Rattle.live_sets.specs.Starts.{first_of, list_at};
 ghost use Rattle.live_sets.specs.Ends.{AreEnds, lives_at_end};
 ghost use Rattle.live_sets.specs.Lists.{items_of, is_held, AddsList, AddsBlock};
+ghost use Rattle.ir_ast.specs.Operands.{valued};
 
 use crate::ends::ends;
 use crate::numbers::{after, first_numbers};

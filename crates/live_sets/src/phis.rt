@@ -10,9 +10,10 @@ ghost use Rattle.ir_ast.specs.Formed.{IsFormed};
 ghost use Rattle.ir_cfg.specs.Graphs.{graph_of};
 ghost use Rattle.graph_search.specs.Edges.{AreInside};
 ghost use Rattle.rewriting_forms.specs.Names.{is_many};
-ghost use Rattle.live_sets.specs.Values.{has_mark, valued};
 ghost use Rattle.live_sets.specs.Ends.{rows_of, GrownWhere};
 ghost use Rattle.live_sets.specs.Joins.{AreListed, AddsJoins, AreJoins};
+ghost use Rattle.ir_ast.specs.Operands.{valued};
+ghost use Rattle.ir_ast.specs.Lists.{has_mark};
 
 use crate::ends::{Backward, are_many};
 use crate::numbers::first_numbers;

@@ -5,9 +5,10 @@ ghost use Rattle.std.specs.List.{list_any};
 ghost use Rattle.ir_ast.specs.declared.ops.Operand.TheVariants.{Value};
 ghost use Rattle.ir_ast.specs.Faults.PhiEdges.{is_phi};
 ghost use Rattle.rewriting_forms.specs.Numbered.{base_at};
-ghost use Rattle.live_sets.specs.Values.{has_mark};
 ghost use Rattle.live_sets.specs.Sets.{Changed};
-ghost use Rattle.live_sets.specs.Uses.{value_named, other_than, base_named, uses_of, names, uses, line_uses};
+ghost use Rattle.live_sets.specs.Uses.{other_than, base_named, uses_of, names, uses, line_uses};
+ghost use Rattle.ir_ast.specs.Lists.{has_mark};
+ghost use Rattle.ir_ast.specs.Operands.{value_named};
 
 use crate::pointer_sets::PointerSet;
 use ir_ast::{Inst, Op, Operand, Ty};

@@ -4,7 +4,9 @@ ghost use Rattle.std.specs.Prelude.{◌≡◌, ◌++◌, ◌<◌, ◌^◌, [], �
 ghost use Rattle.std.specs.List.{range_with_len};
 ghost use Rattle.ir_ast.specs.Types.{is_pointer};
 ghost use Rattle.ir_ast.specs.Values.{value_types, outcome_type};
-ghost use Rattle.live_sets.specs.Values.{has_mark, result_is_pointer, valued};
+ghost use Rattle.live_sets.specs.Values.{result_is_pointer};
+ghost use Rattle.ir_ast.specs.Operands.{valued};
+ghost use Rattle.ir_ast.specs.Lists.{has_mark};
 
 use ir_ast::{Func, Inst, Op, Ty};
 use sp_ids::{Memory, ValueId};

@@ -10,8 +10,8 @@ use Rattle.object_meaning.specs.Lines.{Line, following, after_all}
 use Rattle.object_meaning.specs.Registers.{put}
 use Rattle.object_meaning.specs.States.{Frame}
 use Rattle.machine_meaning.specs.Machines.{behind, gone_behind, regrouped_by}
-use Rattle.machine_frames.specs.Frames.{is_statepoint}
 use Rattle.machine_lines.specs.Lines.{line_of, lines_left}
+use Rattle.ir_ast.specs.Ops.{is_statepoint}
 
 pub count_lines : (next : ℕ) (insts : List Instruction) → length (lines_left next insts) ≡ length insts
 count_lines next [] = refl

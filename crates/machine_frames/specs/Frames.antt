@@ -15,10 +15,6 @@ use Rattle.machine_frames.specs.declared.frames.Frame.{Frame as Standing}
 use Rattle.machine_frames.specs.declared.frames.Move.{Move}
 use Rattle.machine_frames.specs.declared.tasks.Task.{Task}
 
-abbrev pub is_statepoint : Op → Bool
-is_statepoint (Statepoint id callee types) = true
-is_statepoint _ = false
-
 abbrev pub lines_in : ModuleContent → ℕ → ℕ → List Line
 lines_in content func block = lines_left (first_register content func block) (insts_of content func block)
 

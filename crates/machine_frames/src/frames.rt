@@ -12,10 +12,11 @@ ghost use Rattle.move_plan.specs.declared.plan_lines.PlanLine.{PlanLine};
 ghost use Rattle.machine_meaning.specs.Code.{machinery_of};
 ghost use Rattle.machine_meaning.specs.Words.{worded_operand};
 ghost use Rattle.machine_meaning.specs.Machines.{behind, gone_from, gone_behind, regrouped_by, slot_put, return_address, address_behind};
-ghost use Rattle.machine_frames.specs.Frames.{lines_in, frame_of, entered_in, write_of, is_statepoint};
+ghost use Rattle.machine_frames.specs.Frames.{lines_in, frame_of, entered_in, write_of};
 ghost use Rattle.machine_frames.specs.Landings.{phis_of};
 ghost use Rattle.machine_lines.specs.Decoding.{decoded_of};
 ghost use Rattle.machine_lines.specs.Lines.{line_of, lines_left};
+ghost use Rattle.ir_ast.specs.Ops.{is_statepoint};
 
 use crate::code::Code;
 use crate::copies::copy_all;

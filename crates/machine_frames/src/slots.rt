@@ -7,9 +7,10 @@ ghost use Rattle.object_meaning.specs.Numbers.{width_of, sign_extended};
 ghost use Rattle.object_meaning.specs.Registers.{value, number_in};
 ghost use Rattle.machine_meaning.specs.Machines.{over, slot_value};
 ghost use Rattle.machine_meaning.specs.Words.{worded_operand};
-ghost use Rattle.machine_frames.specs.Frames.{is_statepoint, kept_in};
+ghost use Rattle.machine_frames.specs.Frames.{kept_in};
 ghost use Rattle.machine_lines.specs.Decoding.{decoded_of};
 ghost use Rattle.machine_lines.specs.Lines.{line_of};
+ghost use Rattle.ir_ast.specs.Ops.{is_statepoint};
 
 use frame_walk::Stack;
 use ir_ast::{Inst, Op, Operand, Ty};

@@ -6,19 +6,6 @@ use Rattle.std.specs.Prelude.{Result, Ok, Err}
 use Rattle.moving_heap.specs.declared.heap.Deny.{Deny}
 use Rattle.moving_heap.specs.Heaps.{done}
 
-reduced : (from times bytes rest m : ℕ) → (from + (times * (bytes % m) + rest)) % m ≡ (from + (times * bytes + rest)) % m
-reduced from times bytes rest m =
-    sym (add-mod-mod from (times * (bytes % m) + rest) m)
-    ∙ ap (λ (n : ℕ). (from + n) % m) (sym (mod-add-mod (times * (bytes % m)) m rest)
-    ∙ ap (λ (n : ℕ). (n + rest) % m) (mul-mod_second times bytes m) ∙ mod-add-mod (times * bytes) m rest)
-    ∙ add-mod-mod from (times * bytes + rest) m
-
--- a sum of products, each taken modulo m
-pub scaled : (from times bytes rest m : ℕ) → (from + ((times * (bytes % m)) % m + rest) % m) % m ≡ (from + (times * bytes + rest)) % m
-scaled from times bytes rest m =
-    ap (λ (n : ℕ). (from + n) % m) (mod-add-mod (times * (bytes % m)) m rest) ∙ add-mod-mod from (times * (bytes % m) + rest) m
-    ∙ reduced from times bytes rest m
-
 pub record IsOkay (found : Result ℕ Deny) : Type 0 where
   pub word : ℕ
   pub is : found ≡ Ok word

@@ -30,6 +30,7 @@ use Rattle.machine_lines.specs.Lines.{line_of, lines_left}
 use Rattle.machine_lines.specs.declared.decoded.Decoded.{Decoded}
 use Rattle.machine_lines.proofs.DecodeLemmas.{source_at_is}
 use Rattle.machine_lines.proofs.WordLemmas.{put_is}
+use Rattle.list_laws.proofs.Booleans.{first_true}
 
 pub plain_acts : (machinery : Machinery) (machine : Machine) (line : Line) (rest : List Line) (op : Op) → is_plain op ≡ true
     → machine_acts machinery machine line rest op
@@ -62,10 +63,6 @@ plain_quiet Store e = refl
 plain_quiet (Call callee types) e = cc
 plain_quiet _ e = e
 
-plain_is : (one other : Bool) → (one && other) ≡ true → one ≡ true
-plain_is true other e = refl
-plain_is false other e = cc
-
 -- the operand of a line in a frame with these registers
 abbrev pub held : List ℕ → Instruction → ℕ → Datum
 held registers inst place = operand (map number registers) (map worded_operand inst.operands) place
@@ -97,7 +94,7 @@ module _ (layouts : List ObjectLayout) (inst : Instruction) (registers : List �
       → IfSome found (λ word. Does layouts inst registers heap word heap)
   numbers_do one op ty None one_is op_is ty_is plain value = tt
   numbers_do one op ty (Some word) one_is op_is ty_is plain value =
-      number_does word (plain_is (is_plain inst.op) (is_some inst.result) (sym (ap (λ (d : Decoded). d.plain) one_is) ∙ plain)) (rw (one_is, op_is, ty_is) at value)
+      number_does word (first_true (is_plain inst.op) (is_some inst.result) (sym (ap (λ (d : Decoded). d.plain) one_is) ∙ plain)) (rw (one_is, op_is, ty_is) at value)
 
   pub load_does : (p word : ℕ) → inst.op ≡ Load → held registers inst 0 ≡ number p → Ok word ≡ loaded heap p → Does layouts inst registers heap word heap
   unfolding machine_step

@@ -29,7 +29,7 @@ addr_none stands to e small =
     let none : of_number stands to.object ≡ None = ap (of_number stands) e in
     ap (λ o. (option_map_or (λ (s : Stand). s.address) o 0 + to.offset) % 2 ^ 64) none ∙ (let fits : (0 + to.offset) % 2 ^ 64 ≡ to.offset = omega arith in fits)
 
-none_or : (n : ℕ) → (n ≡ 0) ⊎ ((k : ℕ) × (n ≡ suc k))
+pub none_or : (n : ℕ) → (n ≡ 0) ⊎ ((k : ℕ) × (n ≡ suc k))
 none_or zero = inl refl
 none_or (suc k) = inr (k, refl)
 

@@ -62,7 +62,7 @@ then_placed machinery before next (ends end machine) keeps placed = tt
 abbrev moved_from : Machinery → Machine → List Stand
 moved_from machinery before = moved_at machinery.plan (with_event before.state).events before.heap.stands
 
-still : (stands : List Stand) → map (carried []) stands ≡ stands
+pub still : (stands : List Stand) → map (carried []) stands ≡ stands
 still [] = refl
 still (stand ∷ stands) = ap (λ (rest : List Stand). stand ∷ rest) (still stands)
 
@@ -178,7 +178,3 @@ acts_placed machinery machine line rest op = lifted_placed machinery machine mac
 at_placed : (machinery : Machinery) (machine : Machine) (lines : List Line) → IsPlacedAfter machinery machine (machine_at machinery machine lines)
 at_placed machinery machine [] = tt
 at_placed machinery machine (line ∷ rest) = acts_placed machinery machine line rest line.inst.op
-
-pub step_placed : (machinery : Machinery) (machine : Machine) → IsPlacedAfter machinery machine (machine_step machinery machine)
-unfolding machine_step
-step_placed machinery machine = at_placed machinery machine machine.state.running.rest

@@ -219,8 +219,3 @@ none_settled = record {
   numbered = record { at = λ k d l. absurd (omega arith) };
   apart = refl;
 }
-
--- in each state that a run comes to
-pub run_sound : (machinery : Machinery) (input : List ℤ) (now : Progress Machine) → Reaches {E = End} (machine_proceeds machinery) (machine_opening machinery input) now → IsSound now.state
-run_sound machinery input now reached =
-    subst (λ (next : Next End (Progress Machine)). IsSoundNext next) reached.by (goes_sound machinery reached.after (Go (machine_opening machinery input)) none_settled)

@@ -9,7 +9,7 @@ use Rattle.ir_lines.specs.Sections.{Naming, arguments_named, count_numbered}
 use Rattle.ir_lines.specs.Modules.{type_of, argument_of}
 use Rattle.module_build.proofs.CaseLemmas.{moved}
 use Rattle.list_laws.proofs.Places.{drop_item}
-use Rattle.module_build.proofs.Sizes.{few-arguments}
+use Rattle.ir_lines.proofs.TableLemmas.{length-arguments}
 
 abbrev pub paired : List Named → List (List ℕ) → List Arg
 paired [] names = []
@@ -52,4 +52,4 @@ pub as-many : {B : Type 0} (line : ℕ) (arguments : List Named) (g : B → List
     → map g names ≡ map (λ (one : Naming). one.name) (arguments_named line [] arguments) → length names ≡ length arguments
 as-many line arguments g names e =
     sym (length-map names g) ∙ ap length e ∙ length-map (arguments_named line [] arguments) (λ (one : Naming). one.name)
-    ∙ few-arguments line [] arguments
+    ∙ length-arguments line [] arguments

@@ -101,10 +101,6 @@ notes-all P xs n old new e m =
     notes-same old new (FoundUpTo P xs (length xs)) (Found P xs) (found-all P xs) (found-back P xs)
     (subst (λ (k : ℕ). Notes old new (FoundUpTo P xs k)) e m)
 
--- an element of what a list shows
-pub seen-at : {X Y : Type 0} (f : X → Y) (xs : List X) (i : ℕ) (x : X) → i < length xs → x ≡ get_or xs i x → slice_get (map f xs) i ≡ Some (f x)
-seen-at f xs i x below is = slice_get-map f xs i ∙ ap (option_map f) (slice_get-get_or xs i x below ∙ ap Some (sym is))
-
 -- where the same is found, the same is found at the elements
 pub found-more : {X : Type 0} (P Q : List X → X → List X → ℕ → ℕ → Type 0) (xs : List X)
     → ((before : List X) (here : X) (after : List X) (line code : ℕ) → P before here after line code → Q before here after line code)

@@ -13,59 +13,22 @@ use Rattle.ir_lines.specs.Parts.{passed_value, passed_function}
 use Rattle.ir_lines.specs.Places.{place_in}
 use Rattle.module_build.specs.declared.lost.Lost.{Lost}
 use Rattle.module_build.specs.Lost.{is_missing, after_uses, after_names, after_named}
+use Rattle.list_laws.proofs.Booleans.{or_turn}
 
 -- ---- uses
-
-uses-step : (names : List (List ℕ)) (lost : Lost) (o : Option (Val × TypeWord)) (more : List (Val × TypeWord))
-    → after_uses names lost (cons_option o more) ≡ after_uses names (after_uses names lost (option_to_list o)) more
-uses-step names lost None more = refl
-uses-step names lost (Some used) more = refl
 
 pub uses-append : (names : List (List ℕ)) (lost : Lost) (xs ys : List (Val × TypeWord)) → after_uses names lost (xs ++ ys) ≡ after_uses names (after_uses names lost xs) ys
 uses-append names lost [] ys = refl
 uses-append names lost (x ∷ xs) ys = uses-append names (after_uses names lost (x ∷ [])) xs ys
 
--- one more of what is passed
-pub passed-more : (names : List (List ℕ)) (xs : List Passed) (i : ℕ) (x : Passed) (old new whole : Lost) → i < length xs → x ≡ get_or xs i x
-    → new ≡ after_uses names old (option_to_list (passed_value (seen_passed x)))
-    → after_uses names old (filter_map passed_value (map seen_passed (drop i xs))) ≡ whole
-    → after_uses names new (filter_map passed_value (map seen_passed (drop (i + 1) xs))) ≡ whole
-passed-more names xs i x old new whole below is e so_far =
-    let rest = filter_map passed_value (map seen_passed (drop (i + 1) xs)) in
-    ap (λ (lost : Lost). after_uses names lost rest) e
-    ∙ sym (uses-step names old (passed_value (seen_passed x)) rest)
-    ∙ sym (ap (λ (ys : List Passed). after_uses names old (filter_map passed_value (map seen_passed ys))) (drop_item xs i x below is))
-    ∙ so_far
-
 -- ---- names
-
-names-step : (names : List (List ℕ)) (unknown : Bool) (o : Option (List ℕ)) (more : List (List ℕ))
-    → after_names names unknown (cons_option o more) ≡ after_names names (is_missing names o || unknown) more
-names-step names unknown None more = refl
-names-step names unknown (Some name) more = refl
-
-pub functions-more : (names : List (List ℕ)) (xs : List Passed) (i : ℕ) (x : Passed) (test old whole : Bool) → i < length xs → x ≡ get_or xs i x
-    → test ≡ is_missing names (passed_function (seen_passed x))
-    → after_names names old (filter_map passed_function (map seen_passed (drop i xs))) ≡ whole
-    → after_names names (test || old) (filter_map passed_function (map seen_passed (drop (i + 1) xs))) ≡ whole
-functions-more names xs i x test old whole below is e so_far =
-    let rest = filter_map passed_function (map seen_passed (drop (i + 1) xs)) in
-    ap (λ (b : Bool). after_names names (b || old) rest) e
-    ∙ sym (names-step names old (passed_function (seen_passed x)) rest)
-    ∙ sym (ap (λ (ys : List Passed). after_names names old (filter_map passed_function (map seen_passed ys))) (drop_item xs i x below is))
-    ∙ so_far
-
-pub turn : (a b c : Bool) → (b || (a || c)) ≡ ((a || b) || c)
-turn true true c = refl
-turn true false c = refl
-turn false b c = refl
 
 pub names-any : (names : List (List ℕ)) (unknown : Bool) (wanted : List (List ℕ))
     → after_names names unknown wanted ≡ (list_any (λ name. is_none (place_in names name)) wanted || unknown)
 names-any names unknown [] = refl
 names-any names unknown (name ∷ wanted) =
     names-any names (is_none (place_in names name) || unknown) wanted
-    ∙ turn (is_none (place_in names name)) (list_any (λ other. is_none (place_in names other)) wanted) unknown
+    ∙ or_turn (is_none (place_in names name)) (list_any (λ other. is_none (place_in names other)) wanted) unknown
 
 pub names-or : (names : List (List ℕ)) (unknown : Bool) (wanted : List (List ℕ)) → after_names names unknown wanted ≡ (after_names names false wanted || unknown)
 names-or names unknown wanted =

@@ -5,7 +5,7 @@ use Rattle.std.specs.List.{All, list_all}
 use Rattle.std.proofs.lemmas.List.{length-map}
 use Rattle.std.proofs.lemmas.List.Elements.{All-nil, All-cons, All-append, All-head, All-tail, All-weaker}
 use Rattle.std.proofs.lemmas.List.Sums.{take_while-cons}
-use Rattle.std.proofs.lemmas.Bool.{leb-true}
+use Rattle.std.proofs.lemmas.Bool.{leb-true, and_parts}
 use Rattle.ir_ast.specs.declared.modules.Form.{Form}
 use Rattle.ir_reader.specs.declared.states.Place.{Place}
 use Rattle.ir_reader.specs.declared.states.Place.TheVariants as places
@@ -18,11 +18,8 @@ use Rattle.ir_lines.specs.Modules.{Known, known_of, block_of, argument_of}
 use Rattle.ir_lines.specs.TextLines.{place_behind, Stand, statement_fits, IsTextLines}
 use Rattle.module_build.specs.Placed.{IsPlacedFunction, IsPlaced}
 use Rattle.module_build.proofs.Bodies.{Body, Inside, body-of, blocks-end, inside_function, stays}
-use Rattle.module_build.proofs.Sizes.{few-layouts, few-definitions, few-arguments, few-blocks, few-instructions}
-
-pub both : (x y : Bool) → (x && y) ≡ true → (x ≡ true) × (y ≡ true)
-both true y e = (refl, e)
-both false y e = absurd (let bad : false ≡ true = e in cc)
+use Rattle.module_build.proofs.Sizes.{few-layouts, few-definitions, few-blocks, few-instructions}
+use Rattle.ir_lines.proofs.TableLemmas.{length-arguments}
 
 -- ---- a definition
 
@@ -69,7 +66,7 @@ define-placed : (line : ℕ) (answer : TypeWord) (name : List ℕ) (arguments : 
 define-placed line answer name arguments strategy place next ls is stand fits few =
     let entry = entry-is next (sym (ap opens_function is) ∙ define-opens place answer name arguments strategy) in
     let body = body-of ls places.Entry tt (subst (λ (p : Place). Stand p ls) entry stand) in
-    let h = both (name_fits name) (nat_le (length arguments) 64) fits in
+    let h = and_parts (name_fits name) (nat_le (length arguments) 64) fits in
     let shorter = closed_within ls places.Entry tt (subst (λ (p : Place). Stand p ls) entry stand) in
     All-cons IsPlacedBody (record {
       line = line;
@@ -101,7 +98,7 @@ definitions-placed (l ∷ ls) place stand fits few =
 
 body-placed : (known : Known) (func : Definition) → IsPlacedBody func → IsPlacedFunction known func
 body-placed known func h =
-    let arguments = few-arguments func.line [] func.arguments in
+    let arguments = length-arguments func.line [] func.arguments in
     let named = length-map (arguments_named func.line [] func.arguments) argument_of in
     let blocks = few-blocks func in
     let built = length-map (blocks_of func) (block_of known) in

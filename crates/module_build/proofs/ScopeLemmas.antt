@@ -25,9 +25,11 @@ use Rattle.ir_lines.specs.Faults.UnknownName.{names_unknown}
 use Rattle.ir_lines.specs.Faults.TypeClash.{is_task, starts_task, checks_kind, takes_operands, agrees, call_agrees, takes_types, statepoint_agrees}
 use Rattle.module_build.specs.declared.lost.Lost.{Lost}
 use Rattle.module_build.specs.Lost.{Tables, is_missing, after_use, after_uses, after_names, after_line, nothing_lost, type_fits, fits_in, task_starts, operands_fit, call_fits, statepoint_fits, says_wrong_in}
-use Rattle.module_build.proofs.LostLemmas.{turn, names-any}
+use Rattle.module_build.proofs.LostLemmas.{names-any}
 use Rattle.ir_resolve.specs.TextFaults.{is_outside, says_wrong, misspells}
 use Rattle.ir_lines.proofs.PlaceLemmas.{at-name}
+use Rattle.list_laws.proofs.Booleans.{or_turn}
+use Rattle.std.proofs.lemmas.Iterator.Adapters.{option_map_id}
 
 -- the tables hold what the lines of the function can name
 pub record AreTables (scope : Scope) (tables : Tables) : Type 0 where
@@ -93,14 +95,14 @@ uses-unknown : (names : List (List ℕ)) (lost : Lost) (used : List (Val × Type
 uses-unknown names lost [] = refl
 uses-unknown names lost (one ∷ more) =
     uses-unknown names (after_use names lost one) more
-    ∙ turn (is_missing names (local_name one.0)) (list_any (λ other. is_missing names (local_name other.0)) more) lost.unknown
+    ∙ or_turn (is_missing names (local_name one.0)) (list_any (λ other. is_missing names (local_name other.0)) more) lost.unknown
 
 uses-misspelled : (names : List (List ℕ)) (lost : Lost) (used : List (Val × TypeWord))
     → (after_uses names lost used).misspelled ≡ (list_any (λ one. is_outside one.1 one.0) used || lost.misspelled)
 uses-misspelled names lost [] = refl
 uses-misspelled names lost (one ∷ more) =
     uses-misspelled names (after_use names lost one) more
-    ∙ turn (is_outside one.1 one.0) (list_any (λ other. is_outside other.1 other.0) more) lost.misspelled
+    ∙ or_turn (is_outside one.1 one.0) (list_any (λ other. is_outside other.1 other.0) more) lost.misspelled
 
 -- what is unknown behind names that are looked for among these
 names-behind : {X : Type 0} (name_of : X → List ℕ) (xs : List X) (names : List (List ℕ)) → names ≡ map name_of xs → (wanted : List (List ℕ)) (so_far before : Bool)
@@ -143,17 +145,13 @@ map-itself : {X : Type 0} (xs : List X) → map (λ x. x) xs ≡ xs
 map-itself [] = refl
 map-itself (x ∷ xs) = ap (λ ys. x ∷ ys) (map-itself xs)
 
-option_map-itself : {X : Type 0} (o : Option X) → option_map (λ x. x) o ≡ o
-option_map-itself None = refl
-option_map-itself (Some x) = refl
-
 head-same : (scope : Scope) (tables : Tables) → AreTables scope tables → (name : List ℕ)
     → at_name tables.heads tables.head_list name ≡ head_named scope name
 head-same scope tables t name =
     ap (λ ns. at_name ns tables.head_list name) t.heads
     ∙ ap (λ hs. at_name (map (λ one. one.name) scope.heads) hs name) (t.head_list ∙ sym (map-itself scope.heads))
     ∙ at-name (λ (one : Head). one.name) (λ (one : Head). one) scope.heads name
-    ∙ option_map-itself (head_named scope name)
+    ∙ option_map_id (head_named scope name)
 
 starts-same : (scope : Scope) (tables : Tables) → AreTables scope tables → (passed : List Given) → task_starts tables passed ≡ starts_task scope passed
 starts-same scope tables t [] = refl

@@ -33,10 +33,6 @@ few-definitions (l ∷ ls) =
     let b = few-definition l.number l.says ls in
     let c = few-definitions ls in omega (arith, a, b, c)
 
-pub few-arguments : (line : ℕ) (before arguments : List Named) → length (arguments_named line before arguments) ≡ length arguments
-few-arguments line before [] = refl
-few-arguments line before (one ∷ more) = ap suc (few-arguments line (before ++ one ∷ []) more)
-
 -- ---- blocks
 
 few-block : (line : ℕ) (name : Option (List ℕ)) (after : List Line) → length (block_at line name after) ≤ 1

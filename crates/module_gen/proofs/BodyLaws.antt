@@ -51,14 +51,6 @@ functions_more seed place funcs func so_far is =
     ∙ ap (λ (last : Function). map (function_at seed) (range_with_len 0 place) ++ last ∷ []) is
     ∙ sym (map-range_with_len_more (function_at seed) 0 place place (omega arith))
 
-pub lines_more : (funcs : List LinedFunction) (func : LinedFunction) → map lines_of funcs ≡ map zeros_of (map content_of funcs)
-    → func.lines ≡ zeros_of func.content → map lines_of (funcs ++ func ∷ []) ≡ map zeros_of (map content_of (funcs ++ func ∷ []))
-lines_more funcs func so_far is =
-    map-append lines_of funcs (func ∷ []) ∙ ap (λ (before : List (List ℕ)). before ++ func.lines ∷ []) so_far
-    ∙ ap (λ (last : List ℕ). map zeros_of (map content_of funcs) ++ last ∷ []) is
-    ∙ sym (map-append zeros_of (map content_of funcs) (func.content ∷ []))
-    ∙ sym (ap (map zeros_of) (map-append content_of funcs (func ∷ [])))
-
 pub few_functions : (seed size : ℕ) (funcs : List LinedFunction) (main : LinedFunction) → map content_of funcs ≡ map (function_at seed) (range_with_len 0 size)
     → size ≤ 1000 → length (funcs ++ main ∷ []) < 2 ^ 32
 few_functions seed size funcs main is few =

@@ -20,6 +20,7 @@ use Rattle.line_parts.specs.Parts.{Val, mark_at, name_if_any, global_at, width_a
 use Rattle.line_parts.specs.Lists.{Named, Given, given, function, at_most_at, listed_at, list_to, comma, is_argument_type, argument_at, arguments_at, is_task_start, head_at, given_behind, passed_at, all_passed_at, called_at, entry_at, begins_entry}
 use Rattle.line_forms.specs.Slots.{Item, Slot, part, parse, says, says_nothing, blank, m, w, g, dropped, a_managed, a_quoted, a_hash, to_brace, a_local, a_layout_name, a_width, a_type, an_answer, a_cast_type, a_value, a_case, a_pred, a_scalar, a_layout, a_place, some_fields, some_entries, a_declared, a_defined, a_called, a_strategy, a_zero, a_closing, a_family_answer, a_family, a_bracketing, a_token, a_global, some_types, some_handed, some_live, a_result, a_number}
 use Rattle.line_forms.specs.Slots as items
+use Rattle.std.proofs.lemmas.Option.{same_Some}
 
 -- ---- one part after another
 
@@ -34,14 +35,11 @@ unfolding after
 went None next whole e = absurd (let bad : None ≡ Some whole = e in cc)
 went (Some p) next whole e = record { x = p.0; rest = p.1; is = refl; more = e }
 
-the-same : {A : Type 0} (x y : A) → Some x ≡ Some y → x ≡ y
-the-same x y e = cc
-
 abbrev found : {A : Type 0} → A → List Tok → Found A
 found x rest = Some (x, rest)
 
 first-of : {A : Type 0} (p q : A × List Tok) → Some p ≡ Some q → p.0 ≡ q.0
-first-of {A} p q e = ap (λ (one : A × List Tok). one.0) (the-same p q e)
+first-of {A} p q e = ap (λ (one : A × List Tok). one.0) (same_Some p q e)
 
 first-is : {A : Type 0} (x y : A) (r s : List Tok) → found x r ≡ found y s → x ≡ y
 first-is x y r s e = first-of (x, r) (y, s) e
@@ -88,7 +86,7 @@ within-width bits true is = is
 within-width bits false is = refl
 
 chosen-width : (b : Bool) (bits width : ℕ) → (if b then Some (width_within bits) else None) ≡ Some width → is_width width ≡ true
-chosen-width true bits width e = ap is_width (sym (the-same (width_within bits) width e)) ∙ within-width bits (is_width bits) refl
+chosen-width true bits width e = ap is_width (sym (same_Some (width_within bits) width e)) ∙ within-width bits (is_width bits) refl
 chosen-width false bits width e = absurd (let bad : None ≡ Some width = e in cc)
 
 width-is : (t : Tok) (width : ℕ) → width_of t ≡ Some width → is_width width ≡ true

@@ -39,9 +39,10 @@ use Rattle.ir_lines.specs.Modules.{Known, known_of, type_of, argument_of, operan
 use Rattle.ir_resolve.specs.FaultSet.{HasNoResolvedFault}
 use Rattle.ir_lines.specs.ReadLines.{IsReadLines, SaysRead, IsReadHead, IsReadArgument, IsValueType}
 use Rattle.ir_lines.proofs.LawNames.{stands, contains_get, get_contained, contains_first, contains_later, contains_cons, same_by_name, position-cons}
-use Rattle.module_laws.proofs.LawFacts.{same_type-is, same_types-is, true-false}
+use Rattle.module_laws.proofs.LawFacts.{same_type-is, same_types-is}
 use Rattle.module_laws.proofs.LawHeads.{definitions-distinct, SaysOf, says-defined}
 use Rattle.module_laws.proofs.LawLines.{InLaw, made, is_value_in}
+use Rattle.list_laws.proofs.Booleans.{true_and_false}
 
 -- ---- names that are found or not
 
@@ -56,7 +57,7 @@ found_at {X} f (y ∷ ys) k x name at e = by (bytes_eq name (f y)) refl k at (λ
     by true is j at ih = ap (λ (b : Bool). is_none (cond b (Some y) (find (λ z. bytes_eq name (f z)) ys))) is
     by false is Rattle.std.specs.Prelude.zero at ih =
         let same : name ≡ f y = sym e ∙ ap f (sym (same_Some y x at)) in
-        absurd (true-false (bytes_eq name (f y)) ((bytes_eq-Decides name (f y)).1 same) is)
+        absurd (true_and_false (bytes_eq name (f y)) ((bytes_eq-Decides name (f y)).1 same) is)
     by false is (suc j) at ih = ap (λ (b : Bool). is_none (cond b (Some y) (find (λ z. bytes_eq name (f z)) ys))) is ∙ ih j at
 
 pub found_by_name : {X : Type 0} (f : X → List ℕ) (xs : List X) (x : X) (name : List ℕ) → Contains xs x → f x ≡ name
@@ -71,7 +72,7 @@ unplaced {X} f (y ∷ ys) name e = by (bytes_eq name (f y)) refl (unplaced f ys 
     by : (b : Bool) → bytes_eq name (f y) ≡ b → (is_none (find (λ z. bytes_eq name (f z)) ys) ≡ true → place_in (map f ys) name ≡ None)
         → place_in (map f (y ∷ ys)) name ≡ None
     by true is ih =
-        absurd (true-false (is_none (find (λ z. bytes_eq name (f z)) (y ∷ ys))) e
+        absurd (true_and_false (is_none (find (λ z. bytes_eq name (f z)) (y ∷ ys))) e
         (ap (λ (b : Bool). is_none (cond b (Some y) (find (λ z. bytes_eq name (f z)) ys))) is))
     by false is ih =
         position-cons (bytes_eq name) (f y) (map f ys)
@@ -254,10 +255,10 @@ same_external a b = by (bytes_eq a.name b.name) refl (same_type a.answer b.answe
         let p : a.parameters ≡ b.parameters = same_types-is a.parameters b.parameters g in
         inl (ap (λ (x : List ℕ). external x a.answer a.parameters) n ∙ ap (λ (x : TypeWord). external b.name x a.parameters) t
         ∙ ap (λ (x : List TypeWord). external b.name b.answer x) p)
-    by false e y f z g = inr (λ same. true-false (bytes_eq a.name b.name) ((bytes_eq-Decides a.name b.name).1 (ap (λ (x : External). x.name) same)) e)
-    by true e false f z g = inr (λ same. true-false (same_type a.answer b.answer)
+    by false e y f z g = inr (λ same. true_and_false (bytes_eq a.name b.name) ((bytes_eq-Decides a.name b.name).1 (ap (λ (x : External). x.name) same)) e)
+    by true e false f z g = inr (λ same. true_and_false (same_type a.answer b.answer)
         (sym (ap (λ (x : External). same_type a.answer x.answer) same) ∙ same_type-refl a.answer) f)
-    by true e true f false g = inr (λ same. true-false (same_types a.parameters b.parameters)
+    by true e true f false g = inr (λ same. true_and_false (same_types a.parameters b.parameters)
         (sym (ap (λ (x : External). same_types a.parameters x.parameters) same) ∙ same_types-refl a.parameters) g)
 
 pub contains_external : (xs : List External) (x : External) → Contains xs x ⊎ (¬ (Contains xs x))

@@ -39,10 +39,11 @@ use Rattle.ir_lines.specs.Faults.Reserved.{declares_helper}
 use Rattle.ir_lines.specs.Faults.TypeClash.{agrees, starts_task, is_task, checks_kind, call_agrees}
 use Rattle.ir_lines.specs.ReadLines.{IsReadPassed, IsValueType}
 use Rattle.ir_lines.proofs.LawNames.{stands, stands_below, number-is, contains_get, get_contained, contains_first, contains_later, contains_cons, same_by_name}
-use Rattle.module_laws.proofs.LawFacts.{or-left, and-left, and-right, same_type-is, same_types-is, true-false}
+use Rattle.module_laws.proofs.LawFacts.{or-left, same_type-is, same_types-is}
 use Rattle.module_laws.proofs.LawHeads.{HeadFrom, from_definition, from_declaration, head_of, heads-have, heads-from, heads-distinct}
 use Rattle.module_laws.proofs.LawLines.{InLaw, made, is_value_in}
 use Rattle.module_laws.proofs.LawCalls.{IsGoodCall, found_by_name, unplaced, contains_mapped, funcs_of, names_defined, called, given_from_types, args_fit, argument-value, over, no_function, no_functions, call_made, signed, calls_definition, contains_external}
+use Rattle.list_laws.proofs.Booleans.{true_and_false, first_true, second_true}
 
 -- a declaration of faultless lines is one of the externals, and in the source form no helper
 pub declared : (form : Form) (lines : List Line) → HasNoResolvedFault form lines → (l : Line) → Contains lines l → (answer : TypeWord) (name : List ℕ) (parameters : List Named)
@@ -154,8 +155,8 @@ task_from : (lines : List Line) (name : List ℕ) (h : Head) → is_task (Some h
 task_from lines name h e same (from_definition d c f) =
     let st = same_type h.answer Void in
     let ps = same_types h.parameters (Managed ∷ []) in
-    let answered : h.answer ≡ Void = same_type-is h.answer Void (and-right h.defined st (and-left (h.defined && st) ps e)) in
-    let taken : h.parameters ≡ Managed ∷ [] = same_types-is h.parameters (Managed ∷ []) (and-right (h.defined && st) ps e) in
+    let answered : h.answer ≡ Void = same_type-is h.answer Void (second_true h.defined st (first_true (h.defined && st) ps e)) in
+    let taken : h.parameters ≡ Managed ∷ [] = same_types-is h.parameters (Managed ∷ []) (second_true (h.defined && st) ps e) in
     record {
       definition = d;
       there = c;
@@ -166,7 +167,7 @@ task_from lines name h e same (from_definition d c f) =
 task_from lines name h e same (from_declaration l c answer other parameters f g) =
     let st = same_type h.answer Void in
     let ps = same_types h.parameters (Managed ∷ []) in
-    absurd (true-false h.defined (and-left h.defined st (and-left (h.defined && st) ps e)) (ap (λ (x : Head). x.defined) g))
+    absurd (true_and_false h.defined (first_true h.defined st (first_true (h.defined && st) ps e)) (ap (λ (x : Head). x.defined) g))
 
 pub starts_at : (lines : List Line) (func : Definition) (name : List ℕ) → is_task (head_named (scope_of lines func) name) ≡ true → StartsAt lines name
 starts_at lines func name e =
@@ -219,14 +220,14 @@ plain_value ty e read = subst IsValueType e read
 task_passed : (passed : List Given) → same_types (map passed_type passed) (Plain ∷ Managed ∷ []) ≡ true → AllByRecursion IsReadPassed passed → TaskPassed passed
 task_passed [] e read = absurd (let bad : false ≡ true = e in cc)
 task_passed (given ty v ∷ more) e read =
-    absurd (plain_value ty (same_type-is ty Plain (and-left (same_type ty Plain) (same_types (map passed_type more) (Managed ∷ [])) e)) read.0)
+    absurd (plain_value ty (same_type-is ty Plain (first_true (same_type ty Plain) (same_types (map passed_type more) (Managed ∷ [])) e)) read.0)
 task_passed (function to ∷ []) e read = absurd (let bad : false ≡ true = e in cc)
 task_passed (function to ∷ function other ∷ more) e read = absurd (let bad : false ≡ true = e in cc)
 task_passed (function to ∷ given ty v ∷ []) e read =
-    let is : ty ≡ Managed = same_type-is ty Managed (and-left (same_type ty Managed) true e) in
+    let is : ty ≡ Managed = same_type-is ty Managed (first_true (same_type ty Managed) true e) in
     record { to = to; value = v; whole = ap (λ (t : TypeWord). function to ∷ given t v ∷ []) is }
 task_passed (function to ∷ given ty v ∷ one ∷ more) e read =
-    absurd (let bad : false ≡ true = and-right (same_type ty Managed) false e in cc)
+    absurd (let bad : false ≡ true = second_true (same_type ty Managed) false e in cc)
 
 same_task : same_types (Plain ∷ Managed ∷ []) (Plain ∷ Managed ∷ []) ≡ true
 same_task = refl
@@ -398,7 +399,7 @@ no_definition_of form lines none h there undefined name same =
         let headed = All-contains (λ (d : Definition). Contains (heads_of lines) (head_of d)) (definitions_of lines) s.one (heads-have lines)
         (contains_get (definitions_of lines) s.place s.one s.there) in
         let is : head_of s.one ≡ h = same_by_name (λ (x : Head). x.name) (heads_of lines) (head_of s.one) h (heads-distinct form lines none) headed there (s.same ∙ sym same) in
-        absurd (true-false h.defined (sym (ap (λ (x : Head). x.defined) is)) undefined)
+        absurd (true_and_false h.defined (sym (ap (λ (x : Head). x.defined) is)) undefined)
 
 -- the head that a call names, and what it says of the call
 record CallsHead (form : Form) (lines : List Line) (func : Definition) (name : List ℕ) (answer : TypeWord) (passed : List Given) (h : Head) : Type 0 where
@@ -442,17 +443,17 @@ good_call form lines func law name answer passed known rule read =
     let agreeing = agrees answer passed (head_named scope name) in
     let start = not (bytes_eq name (codes "task_start")) || starts_task scope passed in
     let checking = is_source form || not (bytes_eq name (codes "gc_check")) || checks_kind passed in
-    let takes : (start && checking) ≡ true = and-right agreeing (start && checking) rule in
+    let takes : (start && checking) ≡ true = second_true agreeing (start && checking) rule in
     let agreed : agrees answer passed (Some h) ≡ true =
-    sym (ap (agrees answer passed) s.found) ∙ and-left agreeing (start && checking) rule in
+    sym (ap (agrees answer passed) s.found) ∙ first_true agreeing (start && checking) rule in
     let there = contains_get (heads_of lines) s.place h s.there in
     calls_head form lines func name answer passed h (record {
       law = law;
       there = there;
       named = s.same;
-      answers = same_type-is answer h.answer (and-left (same_type answer h.answer) (same_types (map passed_type passed) h.parameters) agreed);
-      takes = same_types-is (map passed_type passed) h.parameters (and-right (same_type answer h.answer) (same_types (map passed_type passed) h.parameters) agreed);
-      starts = and-left start checking takes;
-      checks = and-right start checking takes;
+      answers = same_type-is answer h.answer (first_true (same_type answer h.answer) (same_types (map passed_type passed) h.parameters) agreed);
+      takes = same_types-is (map passed_type passed) h.parameters (second_true (same_type answer h.answer) (same_types (map passed_type passed) h.parameters) agreed);
+      starts = first_true start checking takes;
+      checks = second_true start checking takes;
       read = read;
     }) (All-contains (HeadFrom lines) (heads_of lines) h (heads-from lines) there)

@@ -9,14 +9,8 @@ use Rattle.ir_lines.specs.Sections.{Definition, definitions_of}
 use Rattle.ir_lines.specs.Scope.{Scope, scope_of}
 use Rattle.ir_lines.specs.Types.{same_type, same_types}
 use Rattle.ir_lines.specs.InBody.{InBody}
-
-pub not-true : (b : Bool) → ¬ (b ≡ true) → b ≡ false
-not-true true h = absurd (h refl)
-not-true false h = refl
-
-pub not-false : (b : Bool) → not b ≡ false → b ≡ true
-not-false true e = refl
-not-false false e = absurd (let bad : true ≡ false = e in cc)
+use Rattle.ir_resolve.proofs.Booleans.{not-true}
+use Rattle.list_laws.proofs.Booleans.{first_true, second_true}
 
 pub or-left : (a b : Bool) → (a || b) ≡ false → a ≡ false
 or-left false b e = refl
@@ -25,17 +19,6 @@ or-left true b e = e
 pub or-right : (a b : Bool) → (a || b) ≡ false → b ≡ false
 or-right false b e = e
 or-right true b e = absurd (let bad : true ≡ false = e in cc)
-
-pub and-left : (a b : Bool) → (a && b) ≡ true → a ≡ true
-and-left true b e = refl
-and-left false b e = e
-
-pub and-right : (a b : Bool) → (a && b) ≡ true → b ≡ true
-and-right true b e = e
-and-right false b e = absurd (let bad : false ≡ true = e in cc)
-
-pub true-false : (b : Bool) → b ≡ true → b ≡ false → ⊥
-true-false b t f = let bad : true ≡ false = sym t ∙ f in cc
 
 pub none_any : {A : Type 0} (p : A → Bool) (xs : List A) → list_any p xs ≡ false → AllByRecursion (λ x. p x ≡ false) xs
 none_any p [] e = tt
@@ -68,8 +51,8 @@ same_type-is _ _ e = absurd (let bad : false ≡ true = e in cc)
 pub same_types-is : (xs ys : List TypeWord) → same_types xs ys ≡ true → xs ≡ ys
 same_types-is [] [] e = refl
 same_types-is (x ∷ xs) (y ∷ ys) e =
-    let first : x ≡ y = same_type-is x y (and-left (same_type x y) (same_types xs ys) e) in
-    let rest : xs ≡ ys = same_types-is xs ys (and-right (same_type x y) (same_types xs ys) e) in
+    let first : x ≡ y = same_type-is x y (first_true (same_type x y) (same_types xs ys) e) in
+    let rest : xs ≡ ys = same_types-is xs ys (second_true (same_type x y) (same_types xs ys) e) in
     cc
 same_types-is [] (y ∷ ys) e = absurd (let bad : false ≡ true = e in cc)
 same_types-is (x ∷ xs) [] e = absurd (let bad : false ≡ true = e in cc)

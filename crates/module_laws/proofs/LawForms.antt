@@ -25,7 +25,6 @@ use Rattle.ir_lines.specs.ReadLines.{IsReadLines, is_instruction}
 use Rattle.ir_lines.specs.TextLines.{IsTextLines}
 use Rattle.module_build.specs.Placed.{IsPlacedFunction, IsPlaced}
 use Rattle.module_laws.specs.TextFunctions.{IsTextFunction}
-use Rattle.module_laws.proofs.LawValues.{length-named}
 use Rattle.module_laws.proofs.LawLines.{InLaw, made, read_function}
 use Rattle.module_laws.proofs.LawTyped.{content}
 use Rattle.module_laws.proofs.LawFunctions.{kept, each_inst, local_known, global_known, function_source, function_widths, has_block, are_lines, has_names, has_no_bundle, few_made}
@@ -33,6 +32,7 @@ use Rattle.module_laws.proofs.LawRows.{small, id_words}
 use Rattle.module_laws.proofs.LawModules.{each_function, layouts_filled, layouts_typed, limits_kept, names_once, names_free, module_typed, total_made}
 use Rattle.module_build.proofs.Placing.{read-placed}
 use Rattle.module_laws.proofs.ReadCounts.{total_all}
+use Rattle.ir_lines.proofs.TableLemmas.{length-arguments}
 
 -- ---- what only one of the two forms asks
 
@@ -56,7 +56,7 @@ function_small Source lines text func law =
     omega (
       arith,
       length-map (arguments_named func.line [] func.arguments) argument_of,
-      length-named func.line [] func.arguments,
+      length-arguments func.line [] func.arguments,
     )
 function_small Rewritten lines text func law = record {
   statepoints = small lines func law (All-contains BodyStands (definitions_of lines) func (bodies places.Top lines text.placed) law.defined);

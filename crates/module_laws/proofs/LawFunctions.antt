@@ -6,7 +6,7 @@ use Rattle.std.proofs.lemmas.List.{length-map}
 use Rattle.std.proofs.lemmas.List.Elements.{All-nil, All-cons, All-append, All-same, All-map, All-weaker, All-contains, All-from_recursion, recursion_from_All}
 use Rattle.std.proofs.lemmas.List.Sums.{count_by-le-length}
 use Rattle.std.proofs.lemmas.Option.{slice_get_within}
-use Rattle.std.proofs.lemmas.Bool.{agree_below_at}
+use Rattle.std.proofs.lemmas.Bool.{agree_below_at, and_from}
 use Rattle.list_laws.proofs.Contents.{get_contained, all_contained}
 use Rattle.list_laws.proofs.Places.{get_map}
 use Rattle.ir_ast.specs.declared.types.Ty.{Ty}
@@ -49,10 +49,10 @@ use Rattle.ir_resolve.proofs.Unbroken.{IsUnbroken, unbroken_of, unbroken_typed, 
 use Rattle.ir_lines.specs.ReadLines.{SaysRead, IsReadArgument, IsNameIfAny, IsReadCall, instruction_count}
 use Rattle.module_laws.proofs.LawBodies.{body_insts, func_insts}
 use Rattle.module_laws.proofs.LawFacts.{or-left, or-right}
-use Rattle.module_laws.proofs.LawValues.{few_insts, length-named}
+use Rattle.module_laws.proofs.LawValues.{few_insts}
 use Rattle.ir_lines.specs.Faults.PointerCast.{is_cast}
 use Rattle.module_laws.proofs.LawLines.{InLaw, LineFacts, line_facts, all_lines, made, read_function, said_function, is_value_in, names-are}
-use Rattle.module_laws.proofs.LawTyped.{GoodInst, inst_typed, content, scope_made, two_values, one_value, both, type_width, answer_width, answers, good_binary, good_compare, good_convert, good_select, good_scalar, good_load, good_store, good_ret_void, good_ret, good_unreachable, is_first}
+use Rattle.module_laws.proofs.LawTyped.{GoodInst, inst_typed, content, scope_made, two_values, one_value, type_width, answer_width, answers, good_binary, good_compare, good_convert, good_select, good_scalar, good_load, good_store, good_ret_void, good_ret, good_unreachable, is_first}
 use Rattle.module_laws.proofs.LawGroups.{good_statepoint, good_gc_result, good_gc_relocate}
 use Rattle.module_laws.proofs.LawInsts.{IsGoodLabel, label_below, good_phi, good_call_line, good_jump, good_branch, good_switch_line, good_layout_line}
 
@@ -86,7 +86,7 @@ good_said form lines func law (select result condition left_ty left right_ty rig
     let a = operand_of known left_ty left in
     let b = operand_of known right_ty right in
     good_select form lines func result left_ty c a b
-    (both (is_value c) (list_all is_value (a ∷ b ∷ [])) (is_value_in known.values (Int 1) condition)
+    (and_from (is_value c) (list_all is_value (a ∷ b ∷ [])) (is_value_in known.values (Int 1) condition)
     (two_values a b (is_value_in known.values left_ty left) (is_value_in known.values right_ty right))) facts.read.1
 good_said form lines func law (phi result ty entries) after facts behind = good_phi form lines func law result ty entries facts.read.1 facts.read.2 facts.labels
 good_said form lines func law (scalar_step result element address width index) after facts behind =
@@ -333,7 +333,7 @@ blocks_names form lines func law =
     All-append (λ (b : BlockLines). IsName b.name) (first_block func func.body) (labelled_blocks func.body) (first_name func func.body head.few)
     (labels_names form lines func func.body (facts_of form lines func law))
 
-unmapped : {A B : Type 0} (f : A → B) (P : B → Type 0) (xs : List A) → AllByRecursion P (map f xs) → AllByRecursion (λ x. P (f x)) xs
+pub unmapped : {A B : Type 0} (f : A → B) (P : B → Type 0) (xs : List A) → AllByRecursion P (map f xs) → AllByRecursion (λ x. P (f x)) xs
 unmapped f P [] all = tt
 unmapped f P (x ∷ xs) all = (all.0, unmapped f P xs all.1)
 

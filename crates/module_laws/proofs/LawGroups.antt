@@ -39,12 +39,13 @@ use Rattle.ir_lines.specs.Types.{literal_fits}
 use Rattle.ir_lines.specs.Modules.{Known, known_of, type_of, binary_of, conversion_of, given_type, passed_operand, used_operand, wrapped, instruction, instruction_said}
 use Rattle.ir_lines.specs.Faults.TypeClash.{call_agrees, takes_types}
 use Rattle.ir_lines.specs.ReadLines.{IsReadPassed}
-use Rattle.module_laws.proofs.LawFacts.{and-left, not-false}
 use Rattle.module_laws.proofs.LawLines.{InLaw, LineFacts, made, is_value_in}
 use Rattle.module_laws.proofs.LawCalls.{IsGoodCall, over}
 use Rattle.module_laws.proofs.LawExternals.{good_call}
 use Rattle.module_laws.proofs.LawTyped.{GoodInst, content, scope_made, all-list, type_width, answer_width, answers, is_first, widths_made, values_name_none, no_names, no_layout, one_value}
 use Rattle.module_laws.proofs.LawInsts.{passed_widths}
+use Rattle.std.proofs.lemmas.Bool.{not-false}
+use Rattle.list_laws.proofs.Booleans.{first_true}
 
 -- ---- operands behind those of a call, none of which is a function
 takes_more : (scope : ModuleScope) (callee : Callee) (os more : List Operand) → TakesOperands scope callee os → TakesOperands scope callee (os ++ more)
@@ -139,7 +140,7 @@ good_statepoint form lines func law result called live facts =
     let more = takes_types called.signature.parameters (head_named scope called.callee)
     && literal_fits (Rattle.line_parts.specs.Types.Int 32) called.count in
     let g = good_call form lines func law called.callee called.signature.answer called.passed facts.functions
-    (and-left agreed more (not-false (agreed && more) facts.spelled)) facts.read.passed in
+    (first_true agreed more (not-false (agreed && more) facts.spelled)) facts.read.passed in
     subst (λ (c : Callee). GoodInst form lines func (statepoint_made lines func result called live c)) (sym g.is)
     (statepoint_at form lines func law result called live facts g)
 

@@ -32,12 +32,13 @@ use Rattle.ir_lines.specs.Modules.{known_of, type_of, layout_of, operand_in, ope
 use Rattle.ir_lines.specs.Faults.TypeClash.{call_agrees}
 use Rattle.ir_lines.specs.ReadLines.{SaysRead, IsValueType, IsReadCall, IsReadPassed}
 use Rattle.ir_lines.proofs.LawNames.{stands, stands_below, number-is}
-use Rattle.module_laws.proofs.LawFacts.{or-left, not-false, none_any}
+use Rattle.module_laws.proofs.LawFacts.{or-left, none_any}
 use Rattle.module_laws.proofs.LawLines.{InLaw, LineFacts, made, read_function, is_value_in}
 use Rattle.module_laws.proofs.LawCases.{each_case, labels-cases}
 use Rattle.module_laws.proofs.LawCalls.{IsGoodCall}
 use Rattle.module_laws.proofs.LawExternals.{good_call}
-use Rattle.module_laws.proofs.LawTyped.{GoodInst, IsCalled, content, scope_made, both, all-list, type_width, answers, is_first, widths_made, no_names, no_layout, two_values, width_one, good_layout}
+use Rattle.module_laws.proofs.LawTyped.{GoodInst, IsCalled, content, scope_made, all-list, type_width, answers, is_first, widths_made, no_names, no_layout, two_values, width_one, good_layout}
+use Rattle.std.proofs.lemmas.Bool.{not-false, and_from}
 
 -- ---- labels
 
@@ -224,7 +225,7 @@ good_switch_line form lines func law width value default after facts behind =
     let read = reads form lines func after behind in
     let first = operand_of known (Int width) value in
     good_switch form lines func width first cases (label_of known default) (case_labels known.blocks after) facts.read
-    (both (is_value first) (list_all is_value cases) (is_value_in known.values (Int width) value)
+    (and_from (is_value first) (list_all is_value cases) (is_value_in known.values (Int width) value)
     (all-list is_value cases (each_case (λ (op : Operand). is_value op ≡ true) known.values width (λ v _. is_value_in known.values (Int width) v) after read)))
     (all-list is_literal cases (each_case (λ (op : Operand). is_literal op ≡ true) known.values width (case_literal known.values width) after read))
     (labels-cases known.values known.blocks width after) (

@@ -29,12 +29,13 @@ use Rattle.ir_lines.specs.Faults.Reserved.{defines_external}
 use Rattle.ir_lines.specs.InBody.{InText}
 use Rattle.ir_lines.specs.ReadLines.{IsReadLines, IsReadHead, SaysRead, instruction_count}
 use Rattle.module_laws.proofs.LawBodies.{body_insts}
-use Rattle.module_laws.proofs.LawFacts.{not-true}
 use Rattle.module_laws.proofs.LawHeads.{SaysOf, says-defined, says-layouts, layouts-distinct, definitions-distinct, values-distinct, blocks-distinct}
-use Rattle.module_laws.proofs.LawValues.{few_insts, length-named}
+use Rattle.module_laws.proofs.LawValues.{few_insts}
 use Rattle.module_laws.proofs.LawLines.{InLaw, made, names-are, all_lines}
 use Rattle.module_laws.proofs.LawTyped.{content}
 use Rattle.module_laws.proofs.LawFunctions.{function_typed}
+use Rattle.ir_resolve.proofs.Booleans.{not-true}
+use Rattle.ir_lines.proofs.TableLemmas.{length-arguments}
 
 -- ---- each function
 
@@ -88,7 +89,7 @@ limits_kept form lines read none = record {
   function_names = each_function form lines read none (λ func. length func.name ≤ 4096) (λ func law. (head_of_function form lines func law).short);
   fields = layouts_few form lines read;
   arguments = each_function form lines read none (λ func. length func.args ≤ 64) (λ func law.
-      (let few = (head_of_function form lines func law).few in omega (arith, length-map (arguments_named func.line [] func.arguments) argument_of, length-named func.line [] func.arguments)));
+      (let few = (head_of_function form lines func law).few in omega (arith, length-map (arguments_named func.line [] func.arguments) argument_of, length-arguments func.line [] func.arguments)));
 }
 
 -- ---- names

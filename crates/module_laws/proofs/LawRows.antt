@@ -9,7 +9,7 @@ use Rattle.std.proofs.lemmas.List.Folds.{list_all-append}
 use Rattle.std.proofs.lemmas.List.Sums.{sum_by-cons, take_while-cons}
 use Rattle.std.proofs.lemmas.Option.{same_Some}
 use Rattle.std.proofs.lemmas.Bool.Decides.{Decides-eqb}
-use Rattle.list_laws.proofs.Contents.{get_contained, all_at}
+use Rattle.list_laws.proofs.Contents.{get_contained, all_at, first_same}
 use Rattle.list_laws.proofs.Places.{get_map, get_middle}
 use Rattle.ir_ast.specs.declared.modules.Form.TheVariants.{Rewritten}
 use Rattle.ir_ast.specs.declared.ops.Op.{Op}
@@ -38,17 +38,15 @@ use Rattle.ir_resolve.proofs.Fronts.{said_at, insts, front, insts-cons as insts_
 use Rattle.ir_resolve.proofs.Groups.{are_parts, point, GroupSaid, group_said}
 use Rattle.ir_resolve.proofs.Standing.{BodyStands}
 use Rattle.ir_resolve.proofs.Unbroken.{unbroken_shapes}
-use Rattle.module_laws.proofs.LawFacts.{or-left, and-left, and-right, true-false}
+use Rattle.module_laws.proofs.LawFacts.{or-left}
 use Rattle.module_laws.proofs.LawBodies.{insts_said, insts-cons, body_insts, func_insts}
 use Rattle.module_laws.proofs.LawValues.{given_by}
 use Rattle.module_laws.proofs.LawLines.{InLaw, LineFacts, line_facts, made, read_function, said_function, few_numbers, wrapped_below}
 use Rattle.module_laws.proofs.LawFunctions.{if_some}
 use Rattle.module_laws.proofs.LawGroups.{live_made, dropped_first, is_group_op, group_said as plain_said}
+use Rattle.list_laws.proofs.Booleans.{true_and_false, first_true, second_true}
 
 -- ---- what passes a test stands in a row
-
-head_is : {A : Type 0} (x y : A) (xs ys : List A) → x ∷ xs ≡ y ∷ ys → x ≡ y
-head_is {A} x y xs ys e = same_Some x y (ap (λ (zs : List A). slice_get zs 0) e)
 
 abbrev rest_of : {A : Type 0} → List A → List A
 rest_of [] = []
@@ -75,12 +73,12 @@ InRow {A} p r xs = (mid : List A) (y : A) (more : List A) → xs ≡ mid ++ y �
 in_row : {A : Type 0} (p r : A → Bool) (xs : List A) → InRow p r xs → count_by p xs ≤ length (take_while r xs)
 in_row p r [] h = omega arith
 in_row {A} p r (x ∷ xs) h = by (r x) refl (p x) refl (in_row p r xs (λ mid y more e t.
-    let k = h (x ∷ mid) y more (ap (λ (zs : List A). x ∷ zs) e) t in (and-right (r x) (list_all r mid) k.0, k.1)))
+    let k = h (x ∷ mid) y more (ap (λ (zs : List A). x ∷ zs) e) t in (second_true (r x) (list_all r mid) k.0, k.1)))
   where
     fails : r x ≡ false → (mid : List A) (y : A) (more : List A) → x ∷ xs ≡ mid ++ y ∷ more → list_all r mid ≡ true → r y ≡ true → ⊥
-    fails f [] y more e all t = true-false (r x) (ap r (head_is x y xs more e) ∙ t) f
+    fails f [] y more e all t = true_and_false (r x) (ap r (first_same x y xs more e) ∙ t) f
     fails f (m ∷ ms) y more e all t =
-        true-false (r x) (ap r (head_is x m xs (ms ++ y ∷ more) e) ∙ and-left (r m) (list_all r ms) all) f
+        true_and_false (r x) (ap r (first_same x m xs (ms ++ y ∷ more) e) ∙ first_true (r m) (list_all r ms) all) f
 
     by : (a : Bool) → r x ≡ a → (b : Bool) → p x ≡ b → count_by p xs ≤ length (take_while r xs) → count_by p (x ∷ xs) ≤ length (take_while r (x ∷ xs))
     by true e b f ih =
@@ -131,16 +129,16 @@ data Sides {A : Type 0} (pre : List A) (x : A) (post earlier : List A) (y : A) (
 
 sides : {A : Type 0} (pre : List A) (x : A) (post earlier : List A) (y : A) (parts : List A) → pre ++ x ∷ post ≡ earlier ++ y ∷ parts
     → Sides pre x post earlier y parts
-sides [] x post [] y parts e = is_head (head_is x y post parts e)
+sides [] x post [] y parts e = is_head (first_same x y post parts e)
 sides {A} [] x post (z ∷ zs) y parts e =
-    let same = head_is x z post (zs ++ y ∷ parts) e in
+    let same = first_same x z post (zs ++ y ∷ parts) e in
     in_earlier zs (ap (λ (w : A). w ∷ zs) (sym same))
 sides (p ∷ ps) x post [] y parts e = in_parts ps (sym (ap rest_of e))
 sides {A} (p ∷ ps) x post (z ∷ zs) y parts e = later (sides ps x post zs y parts (ap rest_of e))
   where
     later : Sides ps x post zs y parts → Sides (p ∷ ps) x post (z ∷ zs) y parts
     later (in_earlier more f) =
-        in_earlier more (ap (λ (w : A). w ∷ zs) (sym (head_is p z (ps ++ x ∷ post) (zs ++ y ∷ parts) e)) ∙ ap (λ (ws : List A). p ∷ ws) f)
+        in_earlier more (ap (λ (w : A). w ∷ zs) (sym (first_same p z (ps ++ x ∷ post) (zs ++ y ∷ parts) e)) ∙ ap (λ (ws : List A). p ∷ ws) f)
     later (is_head f) = is_head f
     later (in_parts some f) = in_parts some f
 
@@ -378,8 +376,8 @@ only_relocates : (token : List ℕ) (ls : List Line) → are_parts token ls ≡ 
     → list_all (λ (l : Line). is_relocate l.says) ls ≡ true
 only_relocates token [] e h = refl
 only_relocates token (l ∷ ls) e h =
-    by l.number l.says (and-left (is_part token l.says) (are_parts token ls) e) (λ result ty is. h [] l.number result ty ls (ap (λ (x : Statement). (let one : Line = record { number = l.number; says = x } in one) ∷ ls) is))
-    (only_relocates token ls (and-right (is_part token l.says) (are_parts token ls) e) (λ mid m result ty more f. h (l ∷ mid) m result ty more (ap (λ (xs : List Line). l ∷ xs) f)))
+    by l.number l.says (first_true (is_part token l.says) (are_parts token ls) e) (λ result ty is. h [] l.number result ty ls (ap (λ (x : Statement). (let one : Line = record { number = l.number; says = x } in one) ∷ ls) is))
+    (only_relocates token ls (second_true (is_part token l.says) (are_parts token ls) e) (λ mid m result ty more f. h (l ∷ mid) m result ty more (ap (λ (xs : List Line). l ∷ xs) f)))
   where
     by : (k : ℕ) (s : Statement) → is_part token s ≡ true
         → ((result : List ℕ) (ty : TypeWord) → s ≡ gc_result result ty token → ⊥)
@@ -409,7 +407,7 @@ row lines func text n pre x rest whole passes mid y more e t = (by mid e, reloca
         let own : are_parts q.is.token (there.0 ++ x ∷ ms) ≡ true = ap (are_parts q.is.token) (sym there.1) ∙ q.group.own in
         let parts : (are_parts q.is.token there.0 && are_parts q.is.token (x ∷ ms)) ≡ true =
         sym (list_all-append (λ (l : Line). is_part q.is.token l.says) there.0 (x ∷ ms)) ∙ own in
-        only_relocates q.is.token ms (and-right (is_part q.is.token x.says) (are_parts q.is.token ms) (and-right (are_parts q.is.token there.0) (are_parts q.is.token (x ∷ ms)) parts))
+        only_relocates q.is.token ms (second_true (is_part q.is.token x.says) (are_parts q.is.token ms) (second_true (are_parts q.is.token there.0) (are_parts q.is.token (x ∷ ms)) parts))
         (λ first m result ty later g.
         let r : Line = record { number = m; says = gc_result result ty q.is.token } in
         let at : func.body ≡ (pre ++ x ∷ first) ++ r ∷ (later ++ y ∷ more) =
@@ -423,7 +421,7 @@ row lines func text n pre x rest whole passes mid y more e t = (by mid e, reloca
     by : (mid : List Line) → x ∷ rest ≡ mid ++ y ∷ more → list_all (λ (l : Line). is_relocate l.says) mid ≡ true
     by [] f = refl
     by (m ∷ ms) f =
-        let same : x ≡ m = head_is x m rest (ms ++ y ∷ more) f in
+        let same : x ≡ m = first_same x m rest (ms ++ y ∷ more) f in
         ap (λ (l : Line). is_relocate l.says && list_all (λ (one : Line). is_relocate one.says) ms) (sym same)
         ∙ ap (λ (b : Bool). b && list_all (λ (one : Line). is_relocate one.says) ms) (relocate x.says passes)
         ∙ tail ms (ap rest_of f)
@@ -457,7 +455,7 @@ no_statepoint _ e = refl
 plain_few : (o : Option Instruction) → IfSome o (λ inst. is_group_op inst.op ≡ false)
     → IfSome o (λ inst. is_statepoint inst.op ≡ true → length (entries_of inst) ≤ 16384)
 plain_few None e = tt
-plain_few (Some inst) e = λ is. absurd (true-false (is_statepoint inst.op) is (no_statepoint inst.op e))
+plain_few (Some inst) e = λ is. absurd (true_and_false (is_statepoint inst.op) is (no_statepoint inst.op e))
 
 few_said : (known : Known) (behind : List Line) (s : Statement) → SaysRead s
     → IfSome (instruction_said known behind s) (λ inst. is_statepoint inst.op ≡ true → length (entries_of inst) ≤ 16384)

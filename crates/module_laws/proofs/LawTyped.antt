@@ -36,6 +36,7 @@ use Rattle.ir_lines.specs.ReadLines.{IsValueType, IsAnswerType}
 use Rattle.module_laws.proofs.LawLines.{made}
 use Rattle.ir_resolve.specs.ModuleFaults.{RuleBesidesCalls, IsTypedBesidesCalls}
 use Rattle.module_laws.proofs.LawCalls.{over}
+use Rattle.std.proofs.lemmas.Bool.{and_from}
 
 abbrev pub content : Form → List Line → Rattle.ir_ast.specs.Modules.ModuleContent
 content form lines = (module_of form lines).content
@@ -62,12 +63,9 @@ pub record GoodInst (form : Form) (lines : List Line) (func : Definition) (inst 
 
 -- ---- parts
 
-pub both : (a b : Bool) → a ≡ true → b ≡ true → (a && b) ≡ true
-both a b e f = ap (λ (x : Bool). x && b) e ∙ f
-
 pub all-list : {A : Type 0} (p : A → Bool) (xs : List A) → AllByRecursion (λ x. p x ≡ true) xs → list_all p xs ≡ true
 all-list p [] all = refl
-all-list p (x ∷ xs) all = both (p x) (list_all p xs) all.0 (all-list p xs all.1)
+all-list p (x ∷ xs) all = and_from (p x) (list_all p xs) all.0 (all-list p xs all.1)
 
 pub type_width : (ty : TypeWord) → IsValueType ty → All IsWidth (type_widths (type_of ty))
 type_width (Int width) read = All-cons IsWidth width [] read (All-nil IsWidth)
@@ -132,10 +130,10 @@ good_plain form lines func result op ty os line called of_op of_type plain layou
 }
 
 pub two_values : (a b : Operand) → is_value a ≡ true → is_value b ≡ true → list_all is_value (a ∷ b ∷ []) ≡ true
-two_values a b e f = both (is_value a) (is_value b && true) e (both (is_value b) true f refl)
+two_values a b e f = and_from (is_value a) (is_value b && true) e (and_from (is_value b) true f refl)
 
 pub one_value : (a : Operand) → is_value a ≡ true → list_all is_value (a ∷ []) ≡ true
-one_value a e = both (is_value a) true e refl
+one_value a e = and_from (is_value a) true e refl
 
 -- ---- each form
 
@@ -218,7 +216,7 @@ good_select form lines func result ty c a b v read =
     tt (All-nil IsWidth) (type_width ty read) refl (no_layout form lines) (no_names form lines (c ∷ a ∷ b ∷ []) v)
 
 element_ok : (ty : TypeWord) → is_scalar_type ty ≡ true → is_element (element_of ty) None ≡ true
-element_ok (Int width) e = both ((width == 8) || (width == 16) || (width == 32) || (width == 64)) true e refl
+element_ok (Int width) e = and_from ((width == 8) || (width == 16) || (width == 32) || (width == 64)) true e refl
 element_ok Managed e = refl
 element_ok Void e = absurd (let bad : false ≡ true = e in cc)
 element_ok Plain e = absurd (let bad : false ≡ true = e in cc)

@@ -14,6 +14,7 @@ use Rattle.ir_lines.specs.Sections.{Definition, Naming, arguments_named, result_
 use Rattle.ir_lines.specs.Modules.{Known, argument_of, instruction_said, insts_of, block_of, function_of}
 use Rattle.ir_lines.specs.ReadLines.{is_instruction, instruction_count}
 use Rattle.module_laws.proofs.LawBodies.{insts_said, insts-cons, body_insts}
+use Rattle.ir_lines.proofs.TableLemmas.{length-arguments}
 
 abbrev pub given_by : List Line → List Naming
 given_by ls = flat_map (λ (l : Line). result_named l.number (gives l.says)) ls
@@ -88,11 +89,7 @@ few_insts known (l ∷ ls) =
     let more = few_insts known ls in
     omega (arith, ap length (insts-cons known l ls), length-append (insts_said (instruction_said known ls l.says)) (insts_of known ls), count-cons l ls)
 
-pub length-named : (line : ℕ) (before more : List Named) → length (arguments_named line before more) ≡ length more
-length-named line before [] = refl
-length-named line before (one ∷ more) = ap suc (length-named line (before ++ one ∷ []) more)
-
 pub few_values : (func : Definition) → length (values_of func) ≤ length func.arguments + instruction_count func.body
 few_values func =
     let more = few_results func.body in
-    omega (arith, length-append (arguments_named func.line [] func.arguments) (given_by func.body), length-named func.line [] func.arguments)
+    omega (arith, length-append (arguments_named func.line [] func.arguments) (given_by func.body), length-arguments func.line [] func.arguments)

@@ -3,7 +3,7 @@
 use Rattle.std.proofs.Common.{◌≡◌, ◌∙◌, ℕ, ◌<◌, ◌≤◌, ◌+◌, refl, sym, ap, subst, Bool, true, false, not, cond, ◌&&◌, List, [], ◌∷◌, ◌++◌, length, length-append, Option, Some, None, arith}
 use Rattle.std.specs.Prelude.{take_while, nat_le, slice_get}
 use Rattle.std.specs.List.{All, AllByRecursion, sum_by}
-use Rattle.std.proofs.lemmas.Bool.{leb-true}
+use Rattle.std.proofs.lemmas.Bool.{leb-true, and_parts}
 use Rattle.std.proofs.lemmas.List.Sums.{take_while-cons, sum_by-cons}
 use Rattle.std.proofs.lemmas.List.Elements.{All-nil, All-cons}
 use Rattle.ir_ast.specs.declared.modules.Form.{Form as TextForm}
@@ -29,7 +29,7 @@ use Rattle.ir_lines.specs.Sections.{Definition, layouts_of, layout_said, definit
 use Rattle.ir_lines.specs.TextLines.{place_behind, Stand}
 use Rattle.ir_lines.specs.Parts.{is_of_group}
 use Rattle.ir_lines.specs.ReadLines.{is_instruction, is_relocate, relocates_first, RelocatesAreFew, instruction_count, opens_case, CasesStand}
-use Rattle.module_laws.proofs.Runs.{IsKept, IsSpelled, Runs, both}
+use Rattle.module_laws.proofs.Runs.{IsKept, IsSpelled, Runs}
 use Rattle.module_laws.proofs.Formed.{Parts, items_of, parse_told}
 use Rattle.module_build.proofs.Bodies.{Inside, Body, inside_function}
 
@@ -153,10 +153,10 @@ record Fit (c : Counts) : Type 0 where
 
 fit-is : (c : Counts) → counts_fit c ≡ true → Fit c
 fit-is c e =
-    let whole = both (nat_le c.layouts 4096 && nat_le c.functions 4096 && nat_le c.values 4096 && nat_le c.instructions 65536) (nat_le c.relocates 16384) e in
-    let a = both (nat_le c.layouts 4096 && nat_le c.functions 4096 && nat_le c.values 4096) (nat_le c.instructions 65536) whole.0 in
-    let b = both (nat_le c.layouts 4096 && nat_le c.functions 4096) (nat_le c.values 4096) a.0 in
-    let d = both (nat_le c.layouts 4096) (nat_le c.functions 4096) b.0 in
+    let whole = and_parts (nat_le c.layouts 4096 && nat_le c.functions 4096 && nat_le c.values 4096 && nat_le c.instructions 65536) (nat_le c.relocates 16384) e in
+    let a = and_parts (nat_le c.layouts 4096 && nat_le c.functions 4096 && nat_le c.values 4096) (nat_le c.instructions 65536) whole.0 in
+    let b = and_parts (nat_le c.layouts 4096 && nat_le c.functions 4096) (nat_le c.values 4096) a.0 in
+    let d = and_parts (nat_le c.layouts 4096) (nat_le c.functions 4096) b.0 in
     record {
       layouts = leb-true c.layouts 4096 d.0;
       functions = leb-true c.functions 4096 d.1;

@@ -31,6 +31,7 @@ use Rattle.ir_lines.specs.TextLines.{place_behind, Stand, statement_fits, stands
 use Rattle.module_laws.proofs.Formed.{Parts, items_of, parse_told}
 use Rattle.module_laws.proofs.Runs.{said_behind, IsKept, IsOwn, IsSpelled, Runs, readings-run, readings-few}
 use Rattle.module_laws.proofs.ReadCounts.{runs-counted, relocates_few}
+use Rattle.list_laws.proofs.Booleans.{and_true}
 
 -- ---- line by line
 
@@ -50,15 +51,11 @@ same-place places.Closed (label name) kept = refl
 same-place places.Cases (label name) kept = refl
 same-place place (line l) kept = form-place place l.form (slice_get l.items) kept
 
-and-true : (b : Bool) → (b && true) ≡ b
-and-true true = refl
-and-true false = refl
-
 form-limits : (form : Form) → is_dropped_form form ≡ false → (a : Parts (slots form)) → list_all item_fits (items_of (slots form) a) ≡ statement_fits (of_form form (slice_get (items_of (slots form) a)))
 form-limits (forms.Dropped which) kept a = absurd (let bad : true ≡ false = kept in cc)
-form-limits forms.Layout kept a = simp and-true
-form-limits forms.Define kept a = simp and-true
-form-limits forms.Statepoint kept a = simp and-true
+form-limits forms.Layout kept a = simp and_true
+form-limits forms.Define kept a = simp and_true
+form-limits forms.Statepoint kept a = simp and_true
 form-limits form kept a = refl
 
 same-limits : (what : Said) → IsKept what → IsSpelled what → said_fits what ≡ statement_fits (stated what)

@@ -2,7 +2,7 @@
 use Rattle.std.proofs.Common.{◌≡◌, ℕ, refl, subst, Bool, true, false, ◌&&◌, if◌then◌else◌, List, [], ◌∷◌, length, Option, Some, None}
 use Rattle.std.specs.Prelude.{nat_le, slice_get}
 use Rattle.std.specs.List.{AllByRecursion, list_all, list_any, before_first, after_first}
-use Rattle.std.proofs.lemmas.Bool.{leb-true}
+use Rattle.std.proofs.lemmas.Bool.{leb-true, and_parts}
 use Rattle.std.proofs.lemmas.List.Elements.{All-from_recursion}
 use Rattle.sp_text.specs.Bytes.{after_blanks}
 use Rattle.sp_text.specs.Labels.{is_label, label_in, is_colon}
@@ -23,11 +23,11 @@ use Rattle.line_forms.proofs.FamilyLines.{fit_parts}
 use Rattle.ir_reader.specs.Limits.{name_fits, item_fits, said_fits}
 use Rattle.ir_lines.specs.Statements.{of_form, stated}
 use Rattle.ir_lines.specs.ReadLines.{IsValueType, IsAnswerType, IsNameIfAny, IsReadArgument, IsReadPassed, SaysRead}
-use Rattle.module_laws.proofs.Runs.{IsSpelled, IsKept, both}
+use Rattle.module_laws.proofs.Runs.{IsSpelled, IsKept}
 use Rattle.module_laws.proofs.Formed.{Parts, items_of, is_named, is_argument, parse_told, passes, read_as}
 
 width_is : (width : ℕ) → is_width width ≡ true → IsWidth width
-width_is width e = let b = both (nat_le 1 width) (nat_le width 64) e in (leb-true 1 width b.0, leb-true width 64 b.1)
+width_is width e = let b = and_parts (nat_le 1 width) (nat_le width 64) e in (leb-true 1 width b.0, leb-true width 64 b.1)
 
 value_type : (ty : TypeWord) → read_as is_value_type ty ≡ true → IsValueType ty
 value_type (Int width) e = width_is width e
@@ -54,8 +54,8 @@ name_read (Some name) e = e
 arguments_read : (arguments : List Named) → list_all (is_argument false) arguments ≡ true → AllByRecursion IsReadArgument arguments
 arguments_read [] e = tt
 arguments_read (one ∷ more) e =
-    let a = both (is_argument false one) (list_all (is_argument false) more) e in
-    let b = both (read_as (is_argument_type false) one.ty) (is_named one.name) a.0 in
+    let a = and_parts (is_argument false one) (list_all (is_argument false) more) e in
+    let b = and_parts (read_as (is_argument_type false) one.ty) (is_named one.name) a.0 in
     ((argument_type one.ty b.0, name_read one.name b.1), arguments_read more a.1)
 
 given_read : (one : Given) → passes one ≡ true → IsReadPassed one
@@ -65,21 +65,21 @@ given_read (function name) e = tt
 passed_read : (passed : List Given) → list_all passes passed ≡ true → AllByRecursion IsReadPassed passed
 passed_read [] e = tt
 passed_read (one ∷ more) e =
-    let a = both (passes one) (list_all passes more) e in (given_read one a.0, passed_read more a.1)
+    let a = and_parts (passes one) (list_all passes more) e in (given_read one a.0, passed_read more a.1)
 
 -- what stands at the slots of a form, within the limits
 says_read : (form : Form) → is_dropped_form form ≡ false → (a : Parts (slots form)) → list_all item_fits (items_of (slots form) a) ≡ true → SaysRead (of_form form (slice_get (items_of (slots form) a)))
 says_read (forms.Dropped which) kept a f = absurd (let bad : true ≡ false = kept in cc)
 says_read forms.Layout kept a f =
-    let b = both (name_fits a.0.x) _ f in
-    let c = both (nat_le (length a.1.0) 64) _ b.1 in
+    let b = and_parts (name_fits a.0.x) _ f in
+    let c = and_parts (nat_le (length a.1.0) 64) _ b.1 in
     (a.0.is, leb-true (length a.0.x) 4096 b.0, leb-true (length a.1.0) 64 c.0)
 says_read forms.Define kept a f =
     let n = a.1.0.x.0 in
     let arguments = a.1.0.x.1 in
-    let b = both (name_fits n && nat_le (length arguments) 64) _ f in
-    let c = both (name_fits n) (nat_le (length arguments) 64) b.0 in
-    let d = both (is_name n) (list_all (is_argument false) arguments) a.1.0.is in
+    let b = and_parts (name_fits n && nat_le (length arguments) 64) _ f in
+    let c = and_parts (name_fits n) (nat_le (length arguments) 64) b.0 in
+    let d = and_parts (is_name n) (list_all (is_argument false) arguments) a.1.0.is in
     record {
       answered = answer_type a.0.x a.0.is;
       named = d.0;
@@ -111,7 +111,7 @@ says_read forms.Statepoint kept a f =
       named = a.0.is;
       answered = answer_type answer.x answer.is;
       passed = All-from_recursion IsReadPassed passed.x (passed_read passed.x passed.is);
-      few = leb-true (length live) 16384 (both (nat_le (length live) 16384) true f).0;
+      few = leb-true (length live) 16384 (and_parts (nat_le (length live) 16384) true f).0;
     }
 says_read forms.GcResult kept a f = (a.0.is, value_type a.1.0.x a.1.0.is)
 says_read forms.GcRelocate kept a f = a.0.is

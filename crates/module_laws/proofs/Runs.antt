@@ -20,6 +20,9 @@ use Rattle.ir_reader.specs.Limits.{said_fits, line_fits, said_counts_as, counted
 use Rattle.line_forms.proofs.FamilyLines.{fit_parts, stands_where_read}
 use Rattle.line_forms.specs.Seen.{Said, label, line, of_form, line_at, ended}
 use Rattle.ir_reader.specs.Text.{Outcome, no_reading, over_limit, nothing, said, is_top, next_state, within, dropped_within, said_by, formed, by_form, tokens_outcome, label_outcome, labelled, outcome, Fault, syntax_fault, limit_fault, Numbered, with_first, readings_by, readings}
+use Rattle.ir_reader.proofs.Judging.{label_fits}
+use Rattle.ir_reader.proofs.Counting.{nothing-in}
+use Rattle.std.proofs.lemmas.Bool.{and_parts}
 
 -- ---- what a line comes to
 
@@ -55,10 +58,6 @@ pub record IsStep (s : State) (what : Said) (next : State) : Type 0 where
 step-is : (s : State) (w what : Said) (n next : State) → w ≡ what → n ≡ next → IsStep s w n → IsStep s what next
 step-is s w what n next e f h = rw (← e, ← f) h
 
-pub both : (x y : Bool) → (x && y) ≡ true → (x ≡ true) × (y ≡ true)
-both true y e = (refl, e)
-both false y e = absurd (let bad : false ≡ true = e in cc)
-
 within-step : (s : State) (form : Form) (place : Place) (items : List Item) (bytes : List ℕ) (passed b : Bool) (what : Said) (next : State)
     → is_dropped_form form ≡ false → form_in s.form (tokens bytes) ≡ Some form → (passed ≡ false → fit form (tokens bytes) ≡ Some (items, [])) → behind s.place form ≡ Some place
     → (line_fits (of_form form items) passed && counts_fit (next_state s place (of_form form items)).counts) ≡ b
@@ -70,7 +69,7 @@ within-step s form place items bytes false true what next kept f p e fits o =
     let is : said (of_form form items) (next_state s place (of_form form items)) ≡ said what next = o in
     let w : of_form form items ≡ what = cc in
     let n : next_state s place (of_form form items) ≡ next = cc in
-    let h = both (said_fits (of_form form items)) (counts_fit (next_state s place (of_form form items)).counts) fits in
+    let h = and_parts (said_fits (of_form form items)) (counts_fit (next_state s place (of_form form items)).counts) fits in
     step-is s (of_form form items) what (next_state s place (of_form form items)) next w n (record {
       place = e;
       form = refl;
@@ -127,15 +126,6 @@ tokens-step s bytes what next o = by (is_nil (tokens bytes)) o
     by true e = absurd (let bad : nothing ≡ said what next = e in cc)
     by false e = form-step s bytes (form_in s.form (tokens bytes)) what next refl e
 
-nothing_counted : (text : TextForm) → counted_in text kinds.Nothing ≡ kinds.Nothing
-nothing_counted text_forms.Source = refl
-nothing_counted text_forms.Rewritten = refl
-
-label-few : (c : Counts) → counts_fit c ≡ true → counts_fit (counted kinds.Nothing c) ≡ true
-label-few c e =
-    let front = nat_le c.layouts 4096 && nat_le c.functions 4096 && nat_le c.values 4096 && nat_le c.instructions 65536 in
-    ap (λ (x : Bool). x && true) (both front (nat_le c.relocates 16384) e).0
-
 label-step : (s : State) (bytes name : List ℕ) (place : Option Place) (what : Said) (next : State) → label_of bytes ≡ Some name
     → behind_label s.place ≡ place → label_outcome s name place ≡ said what next → IsStep s what next
 label-step s bytes name None what next is_label e o = absurd (let bad : no_reading ≡ said what next = o in cc)
@@ -148,8 +138,8 @@ label-step s bytes name (Some place) what next is_label e o =
       place = e;
       form = refl;
       fits = refl;
-      counts = sym (ap (λ (kind : Counted). counted kind s.counts) (nothing_counted s.form));
-      few = label-few s.counts;
+      counts = sym (ap (λ (kind : Counted). counted kind s.counts) (nothing-in s.form));
+      few = label_fits s.counts;
       spelled = (bytes, is_label);
       kept = tt;
       own = tt;

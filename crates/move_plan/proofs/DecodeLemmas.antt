@@ -13,13 +13,11 @@ use Rattle.move_plan.specs.Texts.{HasNoReading}
 use Rattle.move_plan.specs.PlanLines.{spelling, Spells, IsInRange, ReadsAs}
 use Rattle.move_plan.specs.Decoded.{decoded, decoded_at, decoded_every, decoded_go, decoded_move, decoded_verb, count_of, number_of, is_last, is_none, last_number, only_if}
 use Rattle.move_plan.proofs.NumberLemmas.{count_of-decimal, count_of-sound, number_of-decimal, number_of-sound}
+use Rattle.list_laws.proofs.Contents.{same_bytes}
 
 option_map_some : {A B P : Type 0} (f : A → B) (o : Option A) (y : B) → option_map f o ≡ Some y → ((x : A) → o ≡ Some x → f x ≡ y → P) → P
 option_map_some f None y e k = absurd (none-some y e)
 option_map_some f (Some x) y e k = k x refl (same_Some (f x) y e)
-
-same_bytes : (xs ys : List ℕ) → bytes_eq xs ys ≡ true → xs ≡ ys
-same_bytes xs ys e = (bytes_eq-Decides xs ys).0 e
 
 -- ---- what is spelled is decoded
 

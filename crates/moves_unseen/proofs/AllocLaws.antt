@@ -24,6 +24,7 @@ use Rattle.object_meaning.specs.Calls.{made}
 use Rattle.object_meaning.specs.Registers.{nothing, pointer_in}
 use Rattle.machine_meaning.specs.Relations.{addr, IsInHeap}
 use Rattle.moves_unseen.specs.Objects.{AreHeld, Holds, IsHeld}
+use Rattle.list_laws.proofs.Places.{get_last}
 
 -- ---- a list with one more element
 
@@ -31,10 +32,6 @@ get_before : {X : Type 0} (xs : List X) (x : X) (at : ℕ) → at < length xs �
 get_before [] x at within = absurd (omega arith)
 get_before (first ∷ xs) x zero within = refl
 get_before (first ∷ xs) x (suc at) within = get_before xs x at (omega arith)
-
-get_last : {X : Type 0} (xs : List X) (x : X) → slice_get (xs ++ x ∷ []) (length xs) ≡ Some x
-get_last [] x = refl
-get_last (first ∷ xs) x = get_last xs x
 
 the_same : {X : Type 0} (one other : X) (found : Option X) → found ≡ Some one → found ≡ Some other → one ≡ other
 the_same one other found first second = cc

@@ -20,10 +20,7 @@ use Rattle.object_meaning.proofs.AccessLaws.{within_is}
 use Rattle.machine_meaning.proofs.CheckLaws.{repeated-get}
 use Rattle.moves_unseen.specs.Objects.{AreHeld}
 use Rattle.moves_unseen.proofs.AddressedLaws.{blank}
-
-pub none_or : (n : ℕ) → (n ≡ 0) ⊎ ((k : ℕ) × (n ≡ suc k))
-none_or zero = inl refl
-none_or (suc k) = inr (k, refl)
+use Rattle.machine_meaning.proofs.AddressLaws.{none_or}
 
 abbrev pub no_object : Object
 no_object = record { layout = 0; count = 0; cells = [] }

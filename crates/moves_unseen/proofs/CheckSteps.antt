@@ -39,11 +39,12 @@ use Rattle.machine_meaning.specs.Relations.{check_of, deny_of, word_in, IsPair}
 use Rattle.moves_unseen.specs.Frames.{AreWords, IsGuarded}
 use Rattle.moves_unseen.specs.States.{Extra, Follows, IsRelated, machine_of}
 use Rattle.moves_unseen.specs.Steps.{IsNumber, StepFollows, both_end, both_go}
-use Rattle.moves_unseen.proofs.CellLaws.{access_of_none, access_of_object, none_or}
+use Rattle.moves_unseen.proofs.CellLaws.{access_of_none, access_of_object}
 use Rattle.moves_unseen.proofs.MemoryLaws.{check_is_access}
 use Rattle.moves_unseen.proofs.PassLaws.{pass_follows}
 use Rattle.moves_unseen.proofs.StandLaws.{IsAlone}
 use Rattle.moves_unseen.proofs.ValueLaws.{same_number, value_at, word_at}
+use Rattle.machine_meaning.proofs.AddressLaws.{none_or}
 
 -- ---- the traps of accesses
 

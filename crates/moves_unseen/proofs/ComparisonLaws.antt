@@ -9,9 +9,8 @@ use Rattle.moving_heap.specs.Settled.{AreSettled}
 use Rattle.moving_heap.proofs.PlaceLemmas.{different}
 use Rattle.object_meaning.specs.Comparisons.{same_pointer}
 use Rattle.machine_meaning.specs.Relations.{IsPair}
-use Rattle.machine_meaning.proofs.AddressLaws.{addr_none}
+use Rattle.machine_meaning.proofs.AddressLaws.{addr_none, none_or}
 use Rattle.moves_unseen.proofs.AddressedLaws.{base_address, blank}
-use Rattle.moves_unseen.proofs.CellLaws.{none_or}
 
 module _ (stands : List Stand) (are : AreSettled stands) (one one_base : Pointer) (word base_word : ℕ) (pair : IsPair stands one one_base word base_word) where
   null_base : one.object ≡ 0 → base_word ≡ 0

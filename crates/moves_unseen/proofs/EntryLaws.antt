@@ -36,8 +36,8 @@ use Rattle.moves_unseen.specs.Objects.{IsBase}
 use Rattle.moves_unseen.specs.States.{worded_frame}
 use Rattle.moves_unseen.proofs.MainLaws.{register_for_each}
 use Rattle.moves_unseen.proofs.RegisterLaws.{word_of_value}
-use Rattle.moves_unseen.proofs.SelectSteps.{is_value_named}
 use Rattle.moves_unseen.proofs.ValueLaws.{pair_of_base}
+use Rattle.pair_facts.proofs.OwnLaws.{named_is}
 
 -- ---- lists
 
@@ -144,7 +144,7 @@ module _ (content : ModuleContent) (place : ℕ) (func : Function) (found : slic
   entry_pair (operands.Value at) base stood =
       let parts = and_parts (is_pointer_argument func at.0) (own_pairs at.0 (Named base)) stood in
       let arg = managed_argument func.args at.0 parts.0 in
-      let same = is_value_named at.0 base parts.1 in
+      let same = named_is at.0 base parts.1 in
       let own = entry_base stands (map (λ arg. arg.ty) func.args) given words left are at.0 (arg.arg).ty (get_map (λ arg. arg.ty) func.args at.0 arg.arg arg.is) arg.managed in
       subst (λ (other : Operand). IsPair stands (pointer_in (value registers (operands.Value at))) (pointer_in (value registers other)) (word_in all_words (operands.Value at)) (word_in all_words other))
       (sym same)

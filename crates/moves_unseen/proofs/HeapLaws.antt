@@ -13,17 +13,13 @@ use Rattle.moving_heap.specs.declared.stands.Moved.{Moved}
 use Rattle.moving_heap.specs.Contents.{Content, moved_word, moved_words, after_moves}
 use Rattle.moving_heap.specs.Places.{moved, moves_of, carried, sent, group_moves, group_targets}
 use Rattle.moving_heap.specs.Settled.{AreSettled}
-use Rattle.moving_heap.proofs.PlaceLemmas.{moved-length, group_is, group_places, group_settled}
+use Rattle.moving_heap.proofs.PlaceLemmas.{moved-length, group_is, group_places, group_settled, sent-size}
 use Rattle.object_meaning.specs.Registers.{nothing, pointer_in}
 use Rattle.machine_meaning.proofs.AddressLaws.{cell_moves}
 use Rattle.moves_unseen.specs.Objects.{AreHeld, Holds, IsHeld}
+use Rattle.moving_heap.proofs.CellLemmas.{moved_count}
 
 -- ---- words by their kinds
-
-words_moved-length : (moves : List Moved) (kinds : List Cell) (words : List ℕ) → length (moved_words moves kinds words) ≡ length words
-words_moved-length moves [] words = refl
-words_moved-length moves (kind ∷ kinds) [] = refl
-words_moved-length moves (kind ∷ kinds) (word ∷ words) = ap suc (words_moved-length moves kinds words)
 
 word_moved : (moves : List Moved) (kinds : List Cell) (words : List ℕ) (cell : ℕ) (kind : Cell) → slice_get kinds cell ≡ Some kind → cell < length words
     → get_or (moved_words moves kinds words) cell 0 ≡ moved_word moves kind (get_or words cell 0)
@@ -51,7 +47,7 @@ module _ (stands : List Stand) (targets : List (Option ℕ)) (are : AreSettled s
     count = is.count;
     kinds = is.kinds;
     cells_count = is.cells_count;
-    words_count = words_moved-length (moves_of stands targets) content.kinds content.words ∙ is.words_count;
+    words_count = moved_count (moves_of stands targets) content.kinds content.words ∙ is.words_count;
     cells = λ cell kind at.
         subst (Holds (moved stands targets) kind (get_or object.cells cell nothing))
         (sym (word_moved (moves_of stands targets) content.kinds content.words cell kind at
@@ -66,16 +62,12 @@ mapped_at f [] k y is = cc
 mapped_at f (x ∷ xs) zero y is = (x, (refl, (let same : f x ≡ y = cc in sym same)))
 mapped_at f (x ∷ xs) (suc k) y is = mapped_at f xs k y is
 
-same_size : (stand : Stand) (target : Option ℕ) → (sent stand target).size ≡ stand.size
-same_size stand None = refl
-same_size stand (Some to) = refl
-
 moved_size : (stands : List Stand) (targets : List (Option ℕ)) (k : ℕ) (stand : Stand) → slice_get (moved stands targets) k ≡ Some stand
     → (one : Stand) × ((slice_get stands k ≡ Some one) × (stand.size ≡ one.size))
 moved_size [] targets k stand is = cc
 moved_size (first ∷ stands) [] k stand is = (stand, (is, refl))
 moved_size (first ∷ stands) (target ∷ targets) zero stand is =
-    (first, (refl, (let same : sent first target ≡ stand = cc in ap (λ (s : Stand). s.size) (sym same) ∙ same_size first target)))
+    (first, (refl, (let same : sent first target ≡ stand = cc in ap (λ (s : Stand). s.size) (sym same) ∙ sent-size first target)))
 moved_size (first ∷ stands) (target ∷ targets) (suc k) stand is = moved_size stands targets k stand is
 
 module _ (layouts : List ObjectLayout) (objects : List Object) (stands : List Stand) (contents : List Content) (are : AreHeld layouts objects stands contents) where

@@ -30,18 +30,11 @@ use Rattle.object_meaning.specs.TargetRuns.{plain_lines}
 use Rattle.pair_facts.specs.Lines.{group_in, line_before, line_in, lines_at}
 use Rattle.pair_facts.specs.Pairs.{Pairs, after, after_group}
 use Rattle.pair_facts.specs.Paths.{pairs_at}
-use Rattle.moves_unseen.proofs.StandLaws.{line_is, no_head}
+use Rattle.object_meaning.proofs.LineLaws.{line_is, plain_back, plain_count}
+use Rattle.pair_facts.proofs.OwnLaws.{head_none}
+use Rattle.ir_ast.proofs.OpLaws.{phi_outside}
 
 -- ---- the end of a block
-
-plain_back : (next : ℕ) (insts : List Instruction) (place : ℕ) (line : Line) → slice_get (plain_lines next insts) place ≡ Some line → slice_get insts place ≡ Some line.inst
-plain_back next [] place line is = absurd (none-some line is)
-plain_back next (inst ∷ insts) zero line is = ap (λ (l : Line). Some l.inst) (same_Some (numbered next inst) line is)
-plain_back next (inst ∷ insts) (suc place) line is = plain_back (following next inst) insts place line is
-
-plain_count : (next : ℕ) (insts : List Instruction) → length (plain_lines next insts) ≡ length insts
-plain_count next [] = refl
-plain_count next (inst ∷ insts) = ap suc (plain_count (following next inst) insts)
 
 last_is : (before : List Instruction) (last inst : Instruction) (place : ℕ) → list_all (λ inst. not (is_terminator inst.op)) before ≡ true
     → slice_get (before ++ last ∷ []) place ≡ Some inst → is_terminator inst.op ≡ true → (inst ≡ last) × (place ≡ length before)
@@ -86,13 +79,6 @@ end_of content target number func found block place line stands ends = by (slice
 
 -- ---- phis at the front of a block
 
-pub taken_lower : {A : Type 0} (count : ℕ) (xs : List A) (place : ℕ) (x : A) → slice_get (take count xs) place ≡ Some x → (place < count) × (slice_get xs place ≡ Some x)
-taken_lower zero [] place x is = absurd (none-some x is)
-taken_lower zero (y ∷ ys) place x is = absurd (none-some x is)
-taken_lower (suc count) [] place x is = absurd (none-some x is)
-taken_lower (suc count) (y ∷ ys) zero x is = ((omega arith), is)
-taken_lower (suc count) (y ∷ ys) (suc place) x is = let rest = taken_lower count ys place x is in let lower = rest.0 in ((omega arith), rest.1)
-
 pub phi_lower : (lines : List Line) (place : ℕ) (line : Line) → place < phi_count lines → slice_get lines place ≡ Some line → is_phi line.inst.op ≡ true
 phi_lower [] place line lower is = absurd (none-some line is)
 phi_lower (first ∷ lines) zero line lower is = by (is_phi first.inst.op) refl
@@ -111,10 +97,6 @@ pub before_phis : (lines : List Line) (count : ℕ) → count ≤ phi_count line
 before_phis lines zero lower line before = absurd (none-some line before)
 before_phis lines (suc place) lower line before = phi_lower lines place line (omega arith) before
 
-phi_outside : (op : Op) → is_phi op ≡ true → (is_statepoint op ≡ false) × (is_member op ≡ false)
-phi_outside ops.Phi is = (refl, refl)
-phi_outside op is = absurd cc
-
 -- phis have acted on the edge
 pub front_stays : (lines : List Line) (front : Pairs) (count : ℕ) → count ≤ phi_count lines → pairs_at lines front count ≡ front
 front_stays lines front zero lower = refl
@@ -125,6 +107,6 @@ front_stays lines front (suc place) lower =
     let outside = phi_outside found.0.inst.op (phi_lower lines place found.0 (omega arith) found.1) in
     ap (λ (head : Option ℕ). option_map_or (λ (head : ℕ). after_group (entries_of (line_in lines head).inst) (group_in lines head)) head
     (if ltb place (phi_count lines) then pairs_at lines front place else after (pairs_at lines front place) (line_before lines place) (line_in lines place)))
-    (no_head lines place (ap is_statepoint op_is ∙ outside.0) (ap is_member op_is ∙ outside.1))
+    (head_none lines place (ap is_statepoint op_is ∙ outside.0) (ap is_member op_is ∙ outside.1))
     ∙ (ap (λ (b : Bool). if b then pairs_at lines front place else after (pairs_at lines front place) (line_before lines place) (line_in lines place)) (lt-ltb place (phi_count lines) (omega arith))
     ∙ front_stays lines front place (omega arith))

@@ -6,7 +6,7 @@ use Rattle.std.specs.Option.{option_map_or}
 use Rattle.std.proofs.lemmas.Bool.{eqb-true, true≢false}
 use Rattle.std.proofs.lemmas.List.{take-map}
 use Rattle.std.proofs.lemmas.Option.{get_or_from_slice_get, slice_get_within}
-use Rattle.list_laws.proofs.Places.{get_map}
+use Rattle.list_laws.proofs.Places.{get_map, take_back}
 use Rattle.sp_ids.specs.declared.ids.BlockId.{BlockId}
 use Rattle.sp_ids.specs.declared.ends.End.TheVariants.{OutOfSteps}
 use Rattle.ir_ast.specs.declared.ops.Op.{Op}
@@ -53,14 +53,16 @@ use Rattle.moves_unseen.specs.Frames.{AreNumbers, IsRunning}
 use Rattle.moves_unseen.specs.States.{Extra, IsRelated, machine_of, worded_frame}
 use Rattle.moves_unseen.specs.Steps.{StepFollows, both_end, both_go}
 use Rattle.moves_unseen.specs.Types.{IsJump, IsLineOf, branches, jumps, switches}
-use Rattle.moves_unseen.proofs.JumpLaws.{IsEnd, before_phis, end_of, front_stays, phi_lower, taken_lower}
+use Rattle.moves_unseen.proofs.JumpLaws.{IsEnd, before_phis, end_of, front_stays, phi_lower}
 use Rattle.moves_unseen.proofs.LineTypes.{lines_are_typed}
 use Rattle.moves_unseen.proofs.PassLaws.{with_words}
 use Rattle.moves_unseen.proofs.PhiLaws.{length_each, number_along, phis_worded, picked, picked_is, pointer_along, put_all_each, put_each, put_words_each, word_along}
-use Rattle.moves_unseen.proofs.PlainSteps.{no_register, number_repeated}
+use Rattle.moves_unseen.proofs.PlainSteps.{number_repeated}
 use Rattle.moves_unseen.proofs.RegisterLaws.{word_of_value}
 use Rattle.moves_unseen.proofs.StandLaws.{IsAlone, behind_alone, line_here}
 use Rattle.moves_unseen.proofs.ValueLaws.{same_number, value_at}
+use Rattle.ir_ast.proofs.OpLaws.{phi_is}
+use Rattle.moving_heap.proofs.VerdictLemmas.{event_none}
 
 jump_alone : (line : Line) (op : Op) → line.inst.op ≡ op → IsJump op → IsAlone line
 jump_alone line _ is jumps = record { statepoint = ap is_statepoint is; member = ap is_member is; phi = ap is_phi is }
@@ -77,10 +79,6 @@ jump_gives _ inst jumps form = form.result
 jump_gives _ inst branches form = form.result
 jump_gives _ inst switches form = (form.0).result
 
-phi_op : (op : Op) → is_phi op ≡ true → op ≡ ops.Phi
-phi_op ops.Phi is = refl
-phi_op op is = absurd cc
-
 phi_typed : (types : List Ty) (inst : Instruction) (op : Op) → op ≡ ops.Phi → AllZip (Fits types) inst.operands (asked op inst.ty (length inst.operands))
     → AllZip (Fits types) inst.operands (asked ops.Phi inst.ty (length inst.operands))
 phi_typed types inst op is all = subst (λ (each : Op). AllZip (Fits types) inst.operands (asked each inst.ty (length inst.operands))) is all
@@ -90,7 +88,7 @@ given_to None at line is given = absurd (true≢false (sym given ∙ ap (λ (o :
 given_to (Some other) at line is given =
     is ∙ ap (λ (n : ℕ). Some n) (eqb-true other at (sym (ap (λ (o : Option ℕ). option_map_or (λ (own : ℕ). own == at) o false) is) ∙ given))
 
-pair_as : (stands : List Stand) (derived other_derived base other_base : Pointer) (word other_word base_word other_base_word : ℕ)
+pub pair_as : (stands : List Stand) (derived other_derived base other_base : Pointer) (word other_word base_word other_base_word : ℕ)
     → derived ≡ other_derived → base ≡ other_base → word ≡ other_word → base_word ≡ other_base_word
     → IsPair stands derived base word base_word → IsPair stands other_derived other_base other_word other_base_word
 pair_as stands derived other_derived base other_base word other_word base_word other_base_word one two three four pair =
@@ -163,7 +161,7 @@ module _ (content : ModuleContent) (target : IsTargetModule content) (map_given 
       ∙ (ap (behind (lines_at func from) related.running.place) (sym related.running.at.arrived.is)
       ∙ (behind_alone (lines_at func from) related.running.place related.running.pairs line here (jump_alone line line.inst.op refl jump)
       ∙ ap (λ (given : Option ℕ). with_given given (λ value. given_pairs (without value related.running.pairs) (line_before (lines_at func from) related.running.place) line.inst line.inst.op value) related.running.pairs)
-      (no_register line.to (of_line.gives ∙ jump_gives line.inst.op line.inst jump of_line.form))))
+      (event_none line.to (of_line.gives ∙ jump_gives line.inst.op line.inst jump of_line.form))))
 
   abbrev new_registers : List Datum
   new_registers = put_each (λ phi. incoming from registers phi.inst) phis registers
@@ -174,8 +172,8 @@ module _ (content : ModuleContent) (target : IsTargetModule content) (map_given 
   -- a phi of the block
   phi_line : (place : ℕ) (phi : Line) → slice_get phis place ≡ Some phi → IsLineOf content func phi × (phi.inst.op ≡ ops.Phi)
   phi_line place phi stands =
-      let lower = taken_lower (phi_count lines) lines place phi stands in
-      (lines_are_typed content target state.running.func func related.running.at.defined to place phi lower.1, phi_op phi.inst.op (phi_lower lines place phi lower.0 lower.1))
+      let lower = take_back (phi_count lines) lines place phi stands in
+      (lines_are_typed content target state.running.func func related.running.at.defined to place phi lower.1, phi_is phi.inst.op (phi_lower lines place phi lower.0 lower.1))
 
   within : (place : ℕ) (phi : Line) (given : ℕ) → slice_get phis place ≡ Some phi → phi.to ≡ Some given → given < length types
   within place phi given stands gives_it =

@@ -14,15 +14,12 @@ use Rattle.ir_ast.specs.Insts.{Instruction}
 use Rattle.ir_ast.specs.Modules.{ModuleContent}
 use Rattle.ir_ast.specs.Values.{argument, definition_type, definitions_of, outcome, value_types}
 use Rattle.object_meaning.specs.Lines.{after_all, first_registers, following, main_of, register_count, registers_of}
+use Rattle.object_meaning.proofs.LineLaws.{some_registers, last_register}
 
 -- ---- registers
 
 abbrev has_result : Instruction → Bool
 has_result inst = is_some inst.result
-
-after_append : (next : ℕ) (xs ys : List Instruction) → after_all next (xs ++ ys) ≡ after_all (after_all next xs) ys
-after_append next [] ys = refl
-after_append next (x ∷ xs) ys = after_append (following next x) xs ys
 
 after_is : (next : ℕ) (insts : List Instruction) → after_all next insts ≡ next + length (filter has_result insts)
 after_is next [] = omega arith
@@ -32,24 +29,6 @@ after_is next (inst ∷ insts) = by (is_some inst.result) (λ n. after_is n inst
         → after_all (if b then next + 1 else next) insts ≡ next + length (if b then inst ∷ filter has_result insts else filter has_result insts)
     by true rest = let is = rest (next + 1) in omega arith
     by false rest = rest next
-
-last_after : (next : ℕ) (registers : List ℕ) → 0 < length registers → slice_index (next ∷ registers) (length (next ∷ registers) - 1) ≡ slice_index registers (length registers - 1)
-last_after next [] some = absurd (omega arith)
-last_after next (first ∷ registers) some =
-    let longer : suc (suc (length registers)) - 1 ≡ suc (length registers) = omega arith in
-    let shorter : suc (length registers) - 1 ≡ length registers = omega arith in
-    ap (λ place. slice_index (next ∷ first ∷ registers) place) longer ∙ sym (ap (λ place. slice_index (first ∷ registers) place) shorter)
-
-some_registers : (next : ℕ) (blocks : List BasicBlock) → 0 < length (first_registers next blocks)
-some_registers next [] = omega arith
-some_registers next (block ∷ blocks) = omega arith
-
-last_register : (next : ℕ) (blocks : List BasicBlock)
-    → slice_index (first_registers next blocks) (length (first_registers next blocks) - 1) ≡ after_all next (instructions_of blocks)
-last_register next [] = refl
-last_register next (block ∷ blocks) =
-    last_after next (first_registers (after_all next block.insts) blocks) (some_registers (after_all next block.insts) blocks)
-    ∙ (last_register (after_all next block.insts) blocks ∙ sym (after_append next block.insts (instructions_of blocks)))
 
 value_count : (func : Function) → length (value_types func) ≡ length func.args + length (filter has_result (instructions_of func.blocks))
 value_count func =

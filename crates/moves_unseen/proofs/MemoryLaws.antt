@@ -16,11 +16,11 @@ use Rattle.object_meaning.specs.Accesses.{Place, accessed, within}
 use Rattle.object_meaning.specs.Accesses.{loaded as datum_at}
 use Rattle.object_meaning.specs.Registers.{nothing}
 use Rattle.machine_meaning.specs.Relations.{addr, check_of, IsPair}
-use Rattle.machine_meaning.proofs.AddressLaws.{addr_none}
+use Rattle.machine_meaning.proofs.AddressLaws.{addr_none, none_or}
 use Rattle.machine_meaning.proofs.CheckLaws.{asks_as_access}
 use Rattle.moves_unseen.specs.Objects.{AreHeld, Holds, Loads}
 use Rattle.moves_unseen.proofs.AddressedLaws.{base_address, blank, distance, numbered, owned_by, stands_here, word_inside}
-use Rattle.moves_unseen.proofs.CellLaws.{IsFound, access_found, access_of_none, access_of_object, no_content, no_object, none_or}
+use Rattle.moves_unseen.proofs.CellLaws.{IsFound, access_found, access_of_none, access_of_object, no_content, no_object}
 
 -- what stands at a place of a list
 record Stands {X : Type 0} (xs : List X) (at : ℕ) : Type 0 where

@@ -55,6 +55,9 @@ use Rattle.moves_unseen.proofs.SelectSteps.{select_follows}
 use Rattle.moves_unseen.proofs.StandLaws.{line_here}
 use Rattle.moves_unseen.proofs.StoreSteps.{store_follows, store_seen}
 use Rattle.moves_unseen.proofs.VerifiedLaws.{check_before, pair_stands}
+use Rattle.moving_heap.proofs.VerdictLemmas.{event_none}
+use Rattle.moving_heap.proofs.StepLemmas.{some_of}
+use Rattle.list_laws.proofs.Contents.{contains_first}
 
 -- ---- operands and results of a type
 
@@ -69,14 +72,6 @@ pointer_type Void is = cc
 pointer_type (Int width) is = cc
 pointer_type Ptr is = refl
 pointer_type Token is = cc
-
-pub register_of : (to : Option ℕ) → is_some to ≡ true → (given : ℕ) × (to ≡ Some given)
-register_of None is = absurd cc
-register_of (Some given) is = (given, refl)
-
-pub no_register : (to : Option ℕ) → is_some to ≡ false → to ≡ None
-no_register None is = refl
-no_register (Some given) is = absurd cc
 
 -- an operand of which a type is asked that isn't a pointer's
 pub number_at : (types : List Ty) (given : List Operand) (wanted : List Ty) (place : ℕ) (ty : Ty) → AllZip (Fits types) given wanted → slice_get wanted place ≡ Some ty
@@ -194,9 +189,6 @@ no_machine_access machine line _ (trunc width) = refl
 no_machine_access machine line _ (zext width) = refl
 no_machine_access machine line _ (sext width) = refl
 
-first_contained : {A : Type 0} (x : A) (xs : List A) → Contains (x ∷ xs) x
-first_contained x xs = (0, (omega arith), refl)
-
 second_contained : {A : Type 0} (x y : A) (xs : List A) → Contains (x ∷ y ∷ xs) y
 second_contained x y xs = (1, (omega arith), refl)
 
@@ -266,7 +258,7 @@ module _ (content : ModuleContent) (target : IsTargetModule content) (verified :
   arithmetic_both : IsArithmetic line.inst.op → Both
   arithmetic_both arithmetical =
       let has = arithmetic_form line.inst.op line.inst arithmetical of_line.form in
-      let register = register_of line.to (of_line.gives ∙ has.0) in
+      let register = some_of line.to (of_line.gives ∙ has.0) in
       let plain = integer_plain line.inst.ty has.1 in
       let all = subst (λ (wanted : List Ty). AllZip (Fits types) line.inst.operands wanted) (arithmetic_asked line.inst.op line.inst.ty (length line.inst.operands) arithmetical) of_line.typed.operands in (
         arithmetic_follows content machinery setting state extra related line rest is arithmetical (record {
@@ -284,7 +276,7 @@ module _ (content : ModuleContent) (target : IsTargetModule content) (verified :
   gep_both : (elem : Elem) (index_width : ℕ) (field : Option ℕ) → line.inst.op ≡ ops.Gep elem index_width field → Both
   gep_both elem index_width field op_is =
       let has = (form (ops.Gep elem index_width field) op_is).0 in
-      let register = register_of line.to (of_line.gives ∙ has.result) in (
+      let register = some_of line.to (of_line.gives ∙ has.result) in (
         gep_follows content machinery setting same_layouts state extra related line rest is elem index_width field op_is
             (number_at types line.inst.operands (Ptr ∷ Int index_width ∷ []) 1 (Int index_width) (fits (ops.Gep elem index_width field) op_is) refl refl)
             (record { given = register.0; to = register.1; ty = line.inst.ty; typed = result_type (ops.Gep elem index_width field) op_is register.0 register.1; managed = has.type }),
@@ -314,16 +306,16 @@ module _ (content : ModuleContent) (target : IsTargetModule content) (verified :
 
       by : (pred : Pred) → line.inst.op ≡ ops.Icmp pred → is_order pred ≡ false → IsCompared types related.running.pairs line pred
       by preds.Eq op_is none =
-          equal ty_is (own_at preds.Eq op_is (operand_at line.inst.operands 0) (first_contained (operand_at line.inst.operands 0) (operand_at line.inst.operands 1 ∷ [])))
+          equal ty_is (own_at preds.Eq op_is (operand_at line.inst.operands 0) (contains_first (operand_at line.inst.operands 0) (operand_at line.inst.operands 1 ∷ [])))
           (own_at preds.Eq op_is (operand_at line.inst.operands 1) (second_contained (operand_at line.inst.operands 0) (operand_at line.inst.operands 1) []))
       by preds.Ne op_is none =
-          differing ty_is (own_at preds.Ne op_is (operand_at line.inst.operands 0) (first_contained (operand_at line.inst.operands 0) (operand_at line.inst.operands 1 ∷ [])))
+          differing ty_is (own_at preds.Ne op_is (operand_at line.inst.operands 0) (contains_first (operand_at line.inst.operands 0) (operand_at line.inst.operands 1 ∷ [])))
           (own_at preds.Ne op_is (operand_at line.inst.operands 1) (second_contained (operand_at line.inst.operands 0) (operand_at line.inst.operands 1) []))
       by other op_is none = absurd cc
 
   icmp_both : (pred : Pred) → line.inst.op ≡ ops.Icmp pred → Both
   icmp_both pred op_is =
-      let register = register_of line.to (of_line.gives ∙ (form (ops.Icmp pred) op_is).result) in (
+      let register = some_of line.to (of_line.gives ∙ (form (ops.Icmp pred) op_is).result) in (
         icmp_follows content machinery setting state extra related line rest is pred op_is (compared_as pred op_is line.inst.ty refl) register.0 register.1 (Int 1)
             (result_type (ops.Icmp pred) op_is register.0 register.1),
         unseen (ops.Icmp pred) op_is refl refl,
@@ -331,7 +323,7 @@ module _ (content : ModuleContent) (target : IsTargetModule content) (verified :
 
   select_both : line.inst.op ≡ ops.Select → Both
   select_both op_is =
-      let register = register_of line.to (of_line.gives ∙ (form ops.Select op_is).result) in
+      let register = some_of line.to (of_line.gives ∙ (form ops.Select op_is).result) in
       let wanted = fits ops.Select op_is in (
         select_follows content machinery setting state extra related line rest is op_is
             (number_at types line.inst.operands (Int 1 ∷ line.inst.ty ∷ line.inst.ty ∷ []) 0 (Int 1) wanted refl refl)
@@ -351,7 +343,7 @@ module _ (content : ModuleContent) (target : IsTargetModule content) (verified :
 
   load_both : line.inst.op ≡ ops.Load → Both
   load_both op_is =
-      let register = register_of line.to (of_line.gives ∙ (form ops.Load op_is).result) in
+      let register = some_of line.to (of_line.gives ∙ (form ops.Load op_is).result) in
       let cell = rule ops.Load op_is in
       let before = checked_before ops.Load op_is (operand_at line.inst.operands 0) refl cell.0 cell.1 in
       let typed = result_type ops.Load op_is register.0 register.1 in (
@@ -363,11 +355,11 @@ module _ (content : ModuleContent) (target : IsTargetModule content) (verified :
   stored_as op_is cells.I64 type_is = number_at types line.inst.operands (line.inst.ty ∷ Ptr ∷ []) 0 line.inst.ty (fits ops.Store op_is) refl (ap is_pointer (sym type_is))
   stored_as op_is cells.Ptr type_is =
       own ops.Store op_is (operand_at line.inst.operands 0)
-      (subst (λ (ty : Ty). Contains (escaping ops.Store (record line.inst { ty = ty })) (operand_at line.inst.operands 0)) type_is (first_contained (operand_at line.inst.operands 0) []))
+      (subst (λ (ty : Ty). Contains (escaping ops.Store (record line.inst { ty = ty })) (operand_at line.inst.operands 0)) type_is (contains_first (operand_at line.inst.operands 0) []))
 
   store_both : line.inst.op ≡ ops.Store → Both
   store_both op_is =
-      let none = no_register line.to (of_line.gives ∙ (form ops.Store op_is).result) in
+      let none = event_none line.to (of_line.gives ∙ (form ops.Store op_is).result) in
       let cell = rule ops.Store op_is in
       let before = checked_before ops.Store op_is (operand_at line.inst.operands 1) refl cell.0 cell.1 in
       let held = stored_as op_is cell.0 cell.1 in (
@@ -397,19 +389,19 @@ module _ (content : ModuleContent) (target : IsTargetModule content) (verified :
   check_both : (passed : List Ty) → line.inst.op ≡ ops.Call Check passed → Both
   check_both passed op_is = (
     check_follows content machinery setting layouts_are state extra related line rest is passed op_is
-        (no_register line.to (gives_as Check passed op_is (record { answer = Void; params = Ptr ∷ Ptr ∷ Int 64 ∷ [] }) refl))
+        (event_none line.to (gives_as Check passed op_is (record { answer = Void; params = Ptr ∷ Ptr ∷ Int 64 ∷ [] }) refl))
         (passes_number Check passed op_is (record { answer = Void; params = Ptr ∷ Ptr ∷ Int 64 ∷ [] }) refl 2 (Int 64) refl refl)
         (used 3 (use_at line.inst.operands 0) (uses_check line (use_at line.inst.operands 0) here
-        (subst (λ (each : Op). Contains (checked each line.inst) (use_at line.inst.operands 0)) (sym op_is) (first_contained (use_at line.inst.operands 0) [])))),
+        (subst (λ (each : Op). Contains (checked each line.inst) (use_at line.inst.operands 0)) (sym op_is) (contains_first (use_at line.inst.operands 0) [])))),
     unseen (ops.Call Check passed) op_is refl refl,
   )
 
   same_both : (passed : List Ty) → line.inst.op ≡ ops.Call Same passed → Both
   same_both passed op_is =
-      let register = register_of line.to (gives_as Same passed op_is (record { answer = Int 1; params = Ptr ∷ Ptr ∷ Ptr ∷ Ptr ∷ [] }) refl) in (
+      let register = some_of line.to (gives_as Same passed op_is (record { answer = Int 1; params = Ptr ∷ Ptr ∷ Ptr ∷ Ptr ∷ [] }) refl) in (
         same_follows content machinery setting state extra related line rest is passed op_is register.0 register.1 line.inst.ty (result_type (ops.Call Same passed) op_is register.0 register.1)
             (used 4 (use_at line.inst.operands 0) (uses_same line (use_at line.inst.operands 0) here
-            (subst (λ (each : Op). Contains (compared each line.inst) (use_at line.inst.operands 0)) (sym op_is) (first_contained (use_at line.inst.operands 0) (use_at line.inst.operands 2 ∷ [])))))
+            (subst (λ (each : Op). Contains (compared each line.inst) (use_at line.inst.operands 0)) (sym op_is) (contains_first (use_at line.inst.operands 0) (use_at line.inst.operands 2 ∷ [])))))
             (used 4 (use_at line.inst.operands 2) (uses_same line (use_at line.inst.operands 2) here
             (subst (λ (each : Op). Contains (compared each line.inst) (use_at line.inst.operands 2)) (sym op_is) (second_contained (use_at line.inst.operands 0) (use_at line.inst.operands 2) [])))),
         unseen (ops.Call Same passed) op_is refl refl,
@@ -418,14 +410,14 @@ module _ (content : ModuleContent) (target : IsTargetModule content) (verified :
   print_both : (passed : List Ty) → line.inst.op ≡ ops.Call Print passed → Both
   print_both passed op_is = (
     print_follows content machinery setting state extra related line rest is passed op_is
-        (no_register line.to (gives_as Print passed op_is (record { answer = Void; params = Int 64 ∷ [] }) refl))
+        (event_none line.to (gives_as Print passed op_is (record { answer = Void; params = Int 64 ∷ [] }) refl))
         (passes_number Print passed op_is (record { answer = Void; params = Int 64 ∷ [] }) refl 0 (Int 64) refl refl),
     unseen (ops.Call Print passed) op_is refl refl,
   )
 
   read_both : (passed : List Ty) → line.inst.op ≡ ops.Call Read passed → Both
   read_both passed op_is =
-      let register = register_of line.to (gives_as Read passed op_is (record { answer = Int 64; params = [] }) refl) in (
+      let register = some_of line.to (gives_as Read passed op_is (record { answer = Int 64; params = [] }) refl) in (
         read_follows content machinery setting state extra related line rest is passed op_is register.0 register.1 line.inst.ty (result_type (ops.Call Read passed) op_is register.0 register.1),
         unseen (ops.Call Read passed) op_is refl refl,
       )

@@ -40,7 +40,9 @@ use Rattle.moves_unseen.proofs.PassLaws.{pass_follows}
 use Rattle.moves_unseen.proofs.RegisterLaws.{alike, apart_of, given_value, given_word, given_words, other_value, other_word}
 use Rattle.moves_unseen.proofs.StandLaws.{IsAlone, line_here}
 use Rattle.moves_unseen.proofs.ValueLaws.{same_number, value_at, word_at}
-use Rattle.moves_unseen.proofs.VerifiedLaws.{same_value}
+use Rattle.object_meaning.proofs.LineLaws.{given_is}
+use Rattle.pair_facts.proofs.OwnLaws.{named_is}
+use Rattle.ir_ast.proofs.OpLaws.{same_is}
 
 -- ---- results of two lines
 
@@ -78,7 +80,7 @@ before_one lines (suc place) last line before here = (place, before, here)
 
 -- ---- operands as words
 
-worded_value : (words : List ℕ) (from : Operand) → value (map number words) (worded_operand from) ≡ number (word_in words from)
+pub worded_value : (words : List ℕ) (from : Operand) → value (map number words) (worded_operand from) ≡ number (word_in words from)
 worded_value words (operands.Value at) =
     get_or-map number words at.0 0 ∙ sym (ap (λ (d : Datum). number (number_in d)) (get_or-map number words at.0 0))
 worded_value words (operands.Int literal) = refl
@@ -112,18 +114,8 @@ a_select op is = absurd cc
 own_name : (to : ℕ) → is_named to (named to) ≡ true
 own_name to = grind (arith, nat_tests)
 
-gives_so : (found : Option ℕ) (to : ℕ) → is_given found to ≡ true → found ≡ Some to
-gives_so None to is = absurd cc
-gives_so (Some other) to is = ap (λ (n : ℕ). Some n) (eqb-true other to is)
-
 the_type : (one other : Ty) (found : Option Ty) → found ≡ Some one → found ≡ Some other → one ≡ other
 the_type one other found first second = cc
-
-pub is_value_named : (to : ℕ) (operand : Operand) → is_named to operand ≡ true → operand ≡ named to
-is_value_named to (operands.Value at) is = ap (λ (n : ℕ). operands.Value (record { 0 = n })) (sym (eqb-true to at.0 is))
-is_value_named to (operands.Int literal) is = absurd cc
-is_value_named to operands.Null is = absurd cc
-is_value_named to (operands.Fun func) is = absurd cc
 
 module _ (content : ModuleContent) (machinery : Machinery) (setting : Setting) (state : State) (extra : Extra) (related : IsRelated content state extra) (line : Line) (rest : List Line)
     (is : state.running.rest ≡ line ∷ rest) (op_is : line.inst.op ≡ Select) (condition : IsNumber (value_types related.running.func) (operand_at line.inst.operands 0))
@@ -263,7 +255,7 @@ module _ (content : ModuleContent) (machinery : Machinery) (setting : Setting) (
       let chosen = related.running.chosen before at is_last (a_select before.inst.op select.0) select.1 gives_at in
       let same_place : chosen_place registers before ≡ place =
       ap (λ (d : Datum). if is_set d then 1 else 2) (value_at registers before.inst.operands 0
-      ∙ (ap (value registers) (same_value (operand_at before.inst.operands 0) (operand_at line.inst.operands 0) tests.0)
+      ∙ (ap (value registers) (same_is (operand_at before.inst.operands 0) (operand_at line.inst.operands 0) tests.0)
       ∙ sym (value_at registers line.inst.operands 0))) in
       let stood = of_chosen (λ arm. without given pairs (operand_at line.inst.operands arm) (bases.Named (operand_at before.inst.operands arm)) ≡ true) arms.0 arms.1 in
       let apart = apart_of pairs given from (operand_at before.inst.operands place) stood in
@@ -274,7 +266,7 @@ module _ (content : ModuleContent) (machinery : Machinery) (setting : Setting) (
           → IsPair extra.heap.stands (pointer_in datum) (pointer_in (value registers (operand_at before.inst.operands place))) word (word_in words (operand_at before.inst.operands place))
           → (own : Bool) → is_named at (operand_at before.inst.operands place) ≡ own → PairAfter (named at)
       by chosen same_place pair true own =
-          let same = is_value_named at (operand_at before.inst.operands place) own in
+          let same = named_is at (operand_at before.inst.operands place) own in
           alike extra.heap.stands datum datum (value registers (operand_at before.inst.operands place)) (value (set registers given datum) (named at))
           word word (word_in words (operand_at before.inst.operands place)) (word_in (set words given word) (named at))
           refl (ap (value registers) same ∙ sym (other_value registers given datum (named at) (other_given before at is_last gives_at)))
@@ -292,7 +284,7 @@ module _ (content : ModuleContent) (machinery : Machinery) (setting : Setting) (
   named_after (operands.Value at) None is_last followed = absurd cc
   named_after (operands.Value at) (Some before) is_last followed =
       let parts = and_parts (gives before at.0) (follows (without given pairs) line.inst.operands before) followed in
-      follow_after before at.0 is_last (gives_so before.to at.0 parts.0) parts.1
+      follow_after before at.0 is_last (given_is before.to at.0 parts.0) parts.1
   named_after (operands.Int literal) found is_last followed = absurd cc
   named_after operands.Null found is_last followed = absurd cc
   named_after (operands.Fun func) found is_last followed = absurd cc
@@ -320,7 +312,7 @@ module _ (content : ModuleContent) (machinery : Machinery) (setting : Setting) (
       by : (own : Bool) → is_named given (operand_at line.inst.operands 0) ≡ own → is_named given (operand_at line.inst.operands 0) ≡ false
       by false apart = apart
       by true own =
-          let fits = subst (λ (o : Operand). Fits types o condition.ty) (is_value_named given (operand_at line.inst.operands 0) own) condition.fits in
+          let fits = subst (λ (o : Operand). Fits types o condition.ty) (named_is given (operand_at line.inst.operands 0) own) condition.fits in
           absurd (true≢false (sym managed ∙ (ap is_pointer (the_type line.inst.ty condition.ty (slice_get types given) typed fits) ∙ condition.plain)))
 
   chosen_given : is_pointer line.inst.ty ≡ true → IsChosen (set registers given datum) (set words given word) line given

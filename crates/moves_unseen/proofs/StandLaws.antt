@@ -23,6 +23,8 @@ use Rattle.pair_facts.specs.Lines.{group_in, head_at, head_here, line_before, li
 use Rattle.pair_facts.specs.Pairs.{Pairs, after, after_group}
 use Rattle.pair_facts.specs.Paths.{behind}
 use Rattle.moves_unseen.specs.Frames.{AreWords, FrameWords, IsChosen, IsGuarded, IsRunning, StandsAt}
+use Rattle.object_meaning.proofs.LineLaws.{line_is}
+use Rattle.pair_facts.proofs.OwnLaws.{head_none}
 
 -- a line that is no phi and no part of a group
 pub record IsAlone (line : Line) : Type 0 where
@@ -38,16 +40,11 @@ first_of_rest [] (suc place) line rest is = cc
 first_of_rest (first ∷ lines) zero line rest is = let same : first ≡ line = cc in ap (λ (l : Line). Some l) same
 first_of_rest (first ∷ lines) (suc place) line rest is = first_of_rest lines place line rest is
 
-rest_of_rest : (lines : List Line) (place : ℕ) (line : Line) (rest : List Line) → drop place lines ≡ line ∷ rest → rest ≡ drop (suc place) lines
+pub rest_of_rest : (lines : List Line) (place : ℕ) (line : Line) (rest : List Line) → drop place lines ≡ line ∷ rest → rest ≡ drop (suc place) lines
 rest_of_rest [] zero line rest is = cc
 rest_of_rest [] (suc place) line rest is = cc
 rest_of_rest (first ∷ lines) zero line rest is = let same : lines ≡ rest = cc in sym same
 rest_of_rest (first ∷ lines) (suc place) line rest is = rest_of_rest lines place line rest is
-
-pub line_is : (lines : List Line) (place : ℕ) (line : Line) → slice_get lines place ≡ Some line → line_in lines place ≡ line
-line_is [] place line is = cc
-line_is (first ∷ lines) zero line is = cc
-line_is (first ∷ lines) (suc place) line is = line_is lines place line is
 
 no_phi_here : (first : Line) (lines : List Line) (b : Bool) → is_phi first.inst.op ≡ b → b ≡ false → phi_count (first ∷ lines) ≡ 0
 no_phi_here first lines b is none = ap (λ (t : Bool). cond t (1 + phi_count lines) 0) (is ∙ none)
@@ -66,20 +63,12 @@ behind_phis (first ∷ lines) (suc place) line is none =
 
 -- ---- pairs
 
-no_head_by : (op : Op) (place : ℕ) (before : Option ℕ) → is_statepoint op ≡ false → is_member op ≡ false → head_here op place before ≡ None
-no_head_by op place before one two =
-    ap (λ (b : Bool). if b then Some place else (if is_member op then before else None)) one ∙ ap (λ (b : Bool). if b then before else None) two
-
-pub no_head : (lines : List Line) (place : ℕ) → is_statepoint (line_in lines place).inst.op ≡ false → is_member (line_in lines place).inst.op ≡ false → head_at lines place ≡ None
-no_head lines zero one two = no_head_by (line_in lines 0).inst.op 0 None one two
-no_head lines (suc place) one two = no_head_by (line_in lines (suc place)).inst.op (suc place) (head_at lines place) one two
-
 -- behind a line that stands alone the pairs are those that it gives and keeps
 pub behind_alone : (lines : List Line) (place : ℕ) (pairs : Pairs) (line : Line) → slice_get lines place ≡ Some line → IsAlone line
     → behind lines place pairs ≡ after pairs (line_before lines place) line
 behind_alone lines place pairs line is alone =
     let here = line_is lines place line is in
-    let none = no_head lines place (ap (λ (l : Line). is_statepoint l.inst.op) here ∙ alone.statepoint) (ap (λ (l : Line). is_member l.inst.op) here ∙ alone.member) in
+    let none = head_none lines place (ap (λ (l : Line). is_statepoint l.inst.op) here ∙ alone.statepoint) (ap (λ (l : Line). is_member l.inst.op) here ∙ alone.member) in
     let past = behind_phis lines place line is alone.phi in
     ap (λ (head : Option ℕ). option_map_or (λ (at : ℕ). after_group (entries_of (line_in lines at).inst) (group_in lines at)) head
     (if ltb place (phi_count lines) then pairs else after pairs (line_before lines place) (line_in lines place))) none
@@ -105,7 +94,7 @@ module _ (content : ModuleContent) (frame : Frame) (func : Function) (place : �
     rest = rest_of_rest (lines_at func frame.block) place line rest (sym at.rest ∙ is);
   }
 
-the_line : (one other : Line) (found : Option Line) → found ≡ Some one → found ≡ Some other → one ≡ other
+pub the_line : (one other : Line) (found : Option Line) → found ≡ Some one → found ≡ Some other → one ≡ other
 the_line one other found first second = cc
 
 module _ (content : ModuleContent) (objects : List Object) (stands : List Stand) (frame : Frame) (held : FrameWords) (running : IsRunning content objects stands frame held)

@@ -19,13 +19,9 @@ use Rattle.moves_unseen.specs.Objects.{AreHeld, Holds, IsHeld}
 use Rattle.moves_unseen.proofs.AddressedLaws.{blank}
 use Rattle.moves_unseen.proofs.CellLaws.{IsFound, access_found}
 use Rattle.moves_unseen.proofs.MemoryLaws.{cell_back, distance_is, number_back, object_back, owned_is}
+use Rattle.list_laws.proofs.Places.{get_own}
 
 -- ---- lists
-
-get_set : {X : Type 0} (xs : List X) (at : ℕ) (x : X) → at < length xs → slice_get (set xs at x) at ≡ Some x
-get_set [] at x within = absurd (omega arith)
-get_set (first ∷ xs) zero x within = refl
-get_set (first ∷ xs) (suc at) x within = get_set xs at x (omega arith)
 
 get_set_other : {X : Type 0} (xs : List X) (at other : ℕ) (x : X) → other ≢ at → slice_get (set xs at x) other ≡ slice_get xs other
 get_set_other [] at other x differ = refl
@@ -90,15 +86,15 @@ module _ (layouts : List ObjectLayout) (objects : List Object) (stands : List St
     sizes = λ place one stand is stood.
         elim (cases_eq place at) [
           | inl same ↦ (
-              let one_is : one ≡ next = the_same one next (slice_get (set objects at next) at) (ap (slice_get (set objects at next)) (sym same) ∙ is) (get_set objects at next (slice_get_within objects at object here)) in
+              let one_is : one ≡ next = the_same one next (slice_get (set objects at next) at) (ap (slice_get (set objects at next)) (sym same) ∙ is) (get_own objects at next (slice_get_within objects at object here)) in
               are.sizes at object stand here (ap (slice_get stands) (sym same) ∙ stood) ∙ (sym size_kept ∙ ap (footprint layouts) (sym one_is)))
           | inr other ↦ are.sizes place one stand (sym (get_set_other objects at place next other) ∙ is) stood
         ];
     each = λ place one kept is stays.
         elim (cases_eq place at) [
           | inl same ↦ (
-              let one_is : one ≡ next = the_same one next (slice_get (set objects at next) at) (ap (slice_get (set objects at next)) (sym same) ∙ is) (get_set objects at next (slice_get_within objects at object here)) in
-              let kept_is : kept ≡ next_content = the_same kept next_content (slice_get (set contents at next_content) at) (ap (slice_get (set contents at next_content)) (sym same) ∙ stays) (get_set contents at next_content (slice_get_within contents at content there)) in
+              let one_is : one ≡ next = the_same one next (slice_get (set objects at next) at) (ap (slice_get (set objects at next)) (sym same) ∙ is) (get_own objects at next (slice_get_within objects at object here)) in
+              let kept_is : kept ≡ next_content = the_same kept next_content (slice_get (set contents at next_content) at) (ap (slice_get (set contents at next_content)) (sym same) ∙ stays) (get_own contents at next_content (slice_get_within contents at content there)) in
               subst (λ (o : Object). IsHeld layouts stands o kept) (sym one_is) (subst (IsHeld layouts stands next) (sym kept_is) held))
           | inr other ↦ are.each place one kept (sym (get_set_other objects at place next other) ∙ is) (sym (get_set_other contents at place next_content other) ∙ stays)
         ];

@@ -27,6 +27,7 @@ use Rattle.pair_facts.specs.Paths.{Arrives, At, Misses, Stands, pairs_at, start,
 use Rattle.pair_facts.specs.Uses.{Use, Uses, accessed_at, checks_access, is_checked}
 use Rattle.moves_unseen.specs.Steps.{IsCheckedBefore}
 use Rattle.moves_unseen.proofs.ValueLaws.{value_at}
+use Rattle.ir_ast.proofs.OpLaws.{same_is}
 
 module _ (func : Function) (block place : ℕ) (none : (code : ℕ) → ¬ FaultAt func block place code) (code at : ℕ) (pair : Use) (uses : Uses (lines_at func block) place code at pair) where
   fresh_by : (operand : Operand) → (Misses func block at operand Any → IsStale func block at pair) → Stands func block at operand Any
@@ -122,24 +123,6 @@ a_check (ops.Sext width) is = cc
 a_check (ops.Gep elem index_width place) is = cc
 a_check (ops.Statepoint id callee types) is = cc
 
-pub same_value : (one other : Operand) → same_operand one other ≡ true → one ≡ other
-same_value (operands.Value one) (operands.Value other) is = ap (λ (n : ℕ). operands.Value (record { 0 = n })) (eqb-true one.0 other.0 is)
-same_value (operands.Value one) (operands.Int other) is = cc
-same_value (operands.Value one) operands.Null is = cc
-same_value (operands.Value one) (operands.Fun other) is = cc
-same_value (operands.Int one) (operands.Value other) is = cc
-same_value (operands.Int one) (operands.Int other) is = ap (λ (n : ℕ). operands.Int n) (eqb-true one other is)
-same_value (operands.Int one) operands.Null is = cc
-same_value (operands.Int one) (operands.Fun other) is = cc
-same_value operands.Null (operands.Value other) is = cc
-same_value operands.Null (operands.Int other) is = cc
-same_value operands.Null operands.Null is = refl
-same_value operands.Null (operands.Fun other) is = cc
-same_value (operands.Fun one) (operands.Value other) is = cc
-same_value (operands.Fun one) (operands.Int other) is = cc
-same_value (operands.Fun one) operands.Null is = cc
-same_value (operands.Fun one) (operands.Fun other) is = cc
-
 named_cell : (cell : Cell) → cell_named (kind_of cell) ≡ cell
 named_cell I64 = refl
 named_cell Ptr = refl
@@ -156,9 +139,9 @@ checked_by lines place registers address ty (Some check) before is =
       types = op.types;
       before = before;
       op = op.is;
-      same_address = same_value (operand_at check.inst.operands 1) address second.0;
+      same_address = same_is (operand_at check.inst.operands 1) address second.0;
       kind = ap (λ (d : Datum). cell_named (number_in d)) (value_at registers check.inst.operands 2)
-          ∙ (ap (λ (o : Operand). cell_named (number_in (value registers o))) (same_value (operand_at check.inst.operands 2) (operands.Int (kind_of (cell_of ty))) second.1)
+          ∙ (ap (λ (o : Operand). cell_named (number_in (value registers o))) (same_is (operand_at check.inst.operands 2) (operands.Int (kind_of (cell_of ty))) second.1)
           ∙ named_cell (cell_of ty));
     }
 

@@ -19,9 +19,8 @@ use Rattle.moving_heap.specs.Settled.{IsNumbered, DifferentPlaces, AreSettled, A
 use Rattle.moving_heap.proofs.FindLemmas.{pairs_tail, old_of, moves_apart}
 use Rattle.moving_heap.proofs.PlaceLemmas.{fits_at, different, carried_all}
 use Rattle.moving_heap.proofs.RowLemmas.{rising_map}
-
-below : (a b : ℕ) → suc a < suc b → a < b
-below a b h = omega arith
+use Rattle.list_laws.proofs.Ranges.{range_more}
+use Rattle.list_laws.proofs.Numbers.{less}
 
 above : (a b : ℕ) → a < b → suc a < suc b
 above a b h = omega arith
@@ -41,7 +40,7 @@ olds_resting (stand ∷ stands) = ap (λ (l : List ℕ). stand.address ∷ l) (o
 pub olds_set : (moves : List Moved) (place to : ℕ) (d : Moved) → place < length moves → olds (set moves place (record (get_or moves place d) { new = to })) ≡ olds moves
 olds_set [] place to d l = refl
 olds_set (move ∷ moves) zero to d l = refl
-olds_set (move ∷ moves) (suc place) to d l = ap (λ (rest : List ℕ). move.old ∷ rest) (olds_set moves place to d (below place (length moves) l))
+olds_set (move ∷ moves) (suc place) to d l = ap (λ (rest : List ℕ). move.old ∷ rest) (olds_set moves place to d (less place (length moves) l))
 
 pub target_some : (move : Moved) (to : ℕ) → (to ≡ 0 → ⊥) → target_in (record move { new = to }) ≡ Some to
 target_some move to ne = rw (ne_eqb to 0 ne) refl
@@ -50,7 +49,7 @@ pub targets_set : (moves : List Moved) (place to : ℕ) (d : Moved) → place < 
     → targets_in (set moves place (record (get_or moves place d) { new = to })) ≡ set (targets_in moves) place (Some to)
 targets_set [] place to d l ne = absurd (omega arith)
 targets_set (move ∷ moves) zero to d l ne = ap (λ (o : Option ℕ). o ∷ targets_in moves) (target_some move to ne)
-targets_set (move ∷ moves) (suc place) to d l ne = ap (λ (rest : List (Option ℕ)). target_in move ∷ rest) (targets_set moves place to d (below place (length moves) l) ne)
+targets_set (move ∷ moves) (suc place) to d l ne = ap (λ (rest : List (Option ℕ)). target_in move ∷ rest) (targets_set moves place to d (less place (length moves) l) ne)
 
 pub target_at : (moves : List Moved) (place : ℕ) (d : Moved) → place < length moves → get_or (targets_in moves) place None ≡ target_in (get_or moves place d)
 target_at moves place d l = get_or-map target_in moves place d None l
@@ -119,10 +118,6 @@ absent stands lines i d l against =
     let at = and_parts (ltb 0 (get_or lines i d).obj) (leb (get_or lines i d).obj (length stands)) (AllPass-from_list_all (λ line. ltb 0 line.obj && leb line.obj (length stands)) lines h i d l) in
     against (ltb-true 0 obj at.0) (leb-true obj (length stands) at.1)))
 
-pub some_lines : (lines : List Move) → 0 < length lines → no_lines lines ≡ false
-some_lines [] l = absurd (omega arith)
-some_lines (line ∷ lines) l = refl
-
 pub not_to_zero : (stand : Stand) → fits stand 0 ≡ false
 not_to_zero stand = refl
 
@@ -182,11 +177,6 @@ pub no_moves : (stands : List Stand) (lines : List Move) (event : Option ℕ) (a
 no_moves stands lines event Empty is other = ap (λ v. due_moves v (moves_of stands (group_targets stands lines event))) is
 no_moves stands lines event Legal is other = absurd (other refl)
 no_moves stands lines event Illegal is other = ap (λ v. due_moves v (moves_of stands (group_targets stands lines event))) is
-
--- the moves by their places, in the order that these have after a sort
-range_more : (a n : ℕ) → range_with_len a (n + 1) ≡ range_with_len a n ++ (a + n) ∷ []
-range_more a zero = let e : a + 0 ≡ a = omega arith in rw e refl
-range_more a (suc n) = let e : (a + 1) + n ≡ a + suc n = omega arith in let f : suc n + 1 ≡ suc (n + 1) = omega arith in rw f (ap (λ (l : List ℕ). a ∷ l) (range_more (a + 1) n ∙ ap (λ (k : ℕ). range_with_len (a + 1) n ++ k ∷ []) e))
 
 pub places_more : (n : ℕ) → range_with_len 0 (n + 1) ≡ range_with_len 0 n ++ n ∷ []
 places_more n = range_more 0 n ∙ ap (λ (k : ℕ). range_with_len 0 n ++ k ∷ []) (let e : 0 + n ≡ n = omega arith in e)

@@ -8,6 +8,7 @@ use Rattle.move_plan.specs.declared.plan_lines.Move.{Move}
 use Rattle.moving_heap.specs.declared.stands.Stand.{Stand}
 use Rattle.moving_heap.specs.Places.{line_target, line_targets, exist, unnamed, differ}
 use Rattle.moving_heap.specs.Settled.{IsNumbered}
+use Rattle.list_laws.proofs.Options.{is_none}
 
 line_target-push : (xs : List Move) (x : Move) (n : ℕ) → line_target (xs ++ x ∷ []) n ≡ option_or (line_target xs n) (line_target (x ∷ []) n)
 line_target-push [] x n = refl
@@ -70,10 +71,6 @@ twice stands lines i d (Some t) l e s =
     (ap differ (sym (split_at lines i d l)) ∙ differ-twice (take i lines) (get_or lines i d) (drop (i + 1) lines) (unnamed-some (take i lines) (get_or lines i d).obj t e)))
 twice stands lines i d None l e s = cc
 
-pub none_of : {A : Type 0} (o : Option A) → is_some o ≡ false → o ≡ None
-none_of None h = refl
-none_of (Some x) h = cc
-
 or_none : (o : Option ℕ) → option_or o None ≡ o
 or_none None = refl
 or_none (Some x) = refl
@@ -94,7 +91,7 @@ named_more lines targets count i place x d l is size at below free named k h =
     let grown' = grown ∙ ap (λ y. option_or (line_target (take i lines) (k + 1)) (line_target (y ∷ []) (k + 1))) (sym is) in
     elim (cases_eq k place) [
       | inl e ↦ (
-          let none : line_target (take i lines) (k + 1) ≡ None = sym (named k h) ∙ ap (λ p. get_or targets p None) e ∙ none_of (get_or targets place None) free in
+          let none : line_target (take i lines) (k + 1) ≡ None = sym (named k h) ∙ ap (λ p. get_or targets p None) e ∙ is_none (get_or targets place None) free in
           let here : place < length targets = omega arith in
           let hit : x.obj ≡ k + 1 = omega arith in
           ap (λ p. get_or (set targets place (Some x.to)) p None) e ∙ get_or-set_same targets place (Some x.to) None here
@@ -135,7 +132,7 @@ named_all stands lines targets numbered size named =
 pub unnamed_here : (lines : List Move) (targets : List (Option ℕ)) (i place : ℕ) (x : Move) → place + 1 ≡ x.obj → is_some (get_or targets place None) ≡ false
     → get_or targets place None ≡ line_target (take i lines) (place + 1) → line_target (take i lines) x.obj ≡ None
 unnamed_here lines targets i place x at free named =
-    ap (line_target (take i lines)) (sym at) ∙ sym named ∙ none_of (get_or targets place None) free
+    ap (line_target (take i lines)) (sym at) ∙ sym named ∙ is_none (get_or targets place None) free
 
 -- the first line that names an object gives its target
 pub first_line : (lines : List Move) (i n : ℕ) (d : Move) → i < length lines → line_target (take i lines) n ≡ None → (get_or lines i d).obj ≡ n → line_target lines n ≡ Some (get_or lines i d).to

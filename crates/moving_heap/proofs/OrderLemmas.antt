@@ -15,12 +15,10 @@ use Rattle.moving_heap.specs.Places.{apart, clear, moved, sent}
 use Rattle.moving_heap.specs.Orders.{target_of, stays, leaver, sent_by, IsLow, IsHigh}
 use Rattle.moving_heap.specs.Settled.{IsNumbered}
 use Rattle.moving_heap.proofs.ApartLemmas.{clear_from}
+use Rattle.list_laws.proofs.Numbers.{less}
 
 abbrev pub blank : Stand
 blank = record { number = 0; size = 0; address = 0 }
-
-below : (a b : ℕ) → suc a < suc b → a < b
-below a b h = omega arith
 
 above : (a b : ℕ) → a < b → suc a < suc b
 above a b h = omega arith
@@ -56,7 +54,7 @@ all_append P xs ys a b k d l =
 
 all_cons : (P : Stand → Type 0) (x : Stand) (xs : List Stand) → P x → All P xs → All P (x ∷ xs)
 all_cons P x xs here rest zero d l = here
-all_cons P x xs here rest (suc k) d l = rest k d (below k (length xs) l)
+all_cons P x xs here rest (suc k) d l = rest k d (less k (length xs) l)
 
 -- a low part before a high one
 pub sorted_parts : (xs ys : List Stand) → Rises xs → Rises ys → All IsLow xs → All IsHigh ys → Rises (xs ++ ys)
@@ -71,13 +69,6 @@ sorted_parts xs ys sx sy low high i j d le lj =
         | inr hi ↦ rw (get_or-append_right xs ys (length xs) i d refl hi, get_or-append_right xs ys (length xs) j d refl h) (sy (i - length xs) (j - length xs) d (omega arith) (omega arith))
       ])
     ]
-
-pub high_above : (low high : List Stand) (word n : ℕ) → ((k : ℕ) (d : Stand) → n ≤ k → k < length high → word < (get_or high k d).address)
-    → (k : ℕ) (d : Stand) → length low + n ≤ k → k < length (low ++ high) → word < (get_or (low ++ high) k d).address
-high_above low high word n h k d le l =
-    let size = length-append low high in
-    let from : length low ≤ k = omega arith in
-    rw (get_or-append_right low high (length low) k d refl from) (h (k - length low) d (omega arith) (omega arith))
 
 and_regroup : (a b c : Bool) → ((a && true) && (b && c)) ≡ ((a && b) && c)
 and_regroup true b c = refl
@@ -124,20 +115,6 @@ pub stay_skip : (targets : List (Option ℕ)) (run : List Stand) (i : ℕ) (d : 
 stay_skip targets run i d l e =
     ap (λ (rest : List Stand). filter (stays targets) rest) (drop_more run i d l)
     ∙ ap (λ b. cond (not b) (get_or run i d ∷ filter (stays targets) (drop (i + 1) run)) (filter (stays targets) (drop (i + 1) run))) e
-
-leaver_some : (targets : List (Option ℕ)) (x : Stand) (to : ℕ) → target_of targets x ≡ Some to → leaver targets x ≡ Some (record x { address = to })
-leaver_some targets x to e = rw e refl
-
-leaver_none : (targets : List (Option ℕ)) (x : Stand) → target_of targets x ≡ None → leaver targets x ≡ None
-leaver_none targets x e = rw e refl
-
-pub leave_step : (targets : List (Option ℕ)) (run : List Stand) (i to : ℕ) (d : Stand) → i < length run → target_of targets (get_or run i d) ≡ Some to
-    → filter_map (leaver targets) (drop i run) ≡ record (get_or run i d) { address = to } ∷ filter_map (leaver targets) (drop (i + 1) run)
-leave_step targets run i to d l e = rw (drop_more run i d l, e) refl
-
-pub leave_skip : (targets : List (Option ℕ)) (run : List Stand) (i : ℕ) (d : Stand) → i < length run → target_of targets (get_or run i d) ≡ None
-    → filter_map (leaver targets) (drop i run) ≡ filter_map (leaver targets) (drop (i + 1) run)
-leave_skip targets run i d l e = rw (drop_more run i d l, e) refl
 
 split_first : (targets : List (Option ℕ)) (x : Stand) (xs : List Stand) (o : Option ℕ) → target_of targets x ≡ o
     → IsPermutation (map (sent_by targets) xs) (filter (stays targets) xs ++ filter_map (leaver targets) xs)

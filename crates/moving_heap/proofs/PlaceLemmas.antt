@@ -19,9 +19,7 @@ use Rattle.moving_heap.specs.Orders.{target_of, sent_by, IsLow}
 use Rattle.moving_heap.proofs.OrderLemmas.{moved_by_number}
 use Rattle.moving_heap.proofs.ApartLemmas.{apart_pairs, pairs_apart, pairs_permutation}
 use Rattle.moving_heap.proofs.FindLemmas.{pairs_tail, old_of, find_nothing, find_at_index, find_in_order, find_not_in_order, AtMostOne, found_by, none_passes}
-
-below : (a b : ℕ) → suc a < suc b → a < b
-below a b h = omega arith
+use Rattle.list_laws.proofs.Numbers.{less}
 
 above : (a b : ℕ) → a < b → suc a < suc b
 above a b h = omega arith
@@ -31,14 +29,14 @@ pub moved-get : (stands : List Stand) (targets : List (Option ℕ)) (k : ℕ) (d
 moved-get [] targets k d l = absurd (omega arith)
 moved-get (stand ∷ stands) [] k d l = refl
 moved-get (stand ∷ stands) (target ∷ targets) zero d l = refl
-moved-get (stand ∷ stands) (target ∷ targets) (suc k) d l = moved-get stands targets k d (below k (length stands) l)
+moved-get (stand ∷ stands) (target ∷ targets) (suc k) d l = moved-get stands targets k d (less k (length stands) l)
 
 pub moved-length : (stands : List Stand) (targets : List (Option ℕ)) → length (moved stands targets) ≡ length stands
 moved-length [] targets = refl
 moved-length (stand ∷ stands) [] = refl
 moved-length (stand ∷ stands) (target ∷ targets) = ap suc (moved-length stands targets)
 
-sent-size : (stand : Stand) (target : Option ℕ) → (sent stand target).size ≡ stand.size
+pub sent-size : (stand : Stand) (target : Option ℕ) → (sent stand target).size ≡ stand.size
 sent-size stand None = refl
 sent-size stand (Some to) = refl
 
@@ -65,7 +63,7 @@ fits_at (stand ∷ stands) (None ∷ targets) zero to d h l e = cc
 fits_at (stand ∷ stands) (Some other ∷ targets) zero to d h l e =
     let same : other ≡ to = cc in ap (fits stand) (sym same) ∙ (and_parts (fits stand other) (all_fit stands targets) h).0
 fits_at (stand ∷ stands) (target ∷ targets) (suc k) to d h l e =
-    fits_at stands targets k to d (and_parts (option_map_or (fits stand) target true) (all_fit stands targets) h).1 (below k (length stands) l) e
+    fits_at stands targets k to d (and_parts (option_map_or (fits stand) target true) (all_fit stands targets) h).1 (less k (length stands) l) e
 
 settled_sent : (used : ℕ) (stand : Stand) (target : Option ℕ) → IsSettled used stand → ((to : ℕ) → target ≡ Some to → fits stand to ≡ true) → IsSettled used (sent stand target)
 settled_sent used stand None settled h = settled
@@ -128,9 +126,9 @@ goes_where (stand ∷ stands) (None ∷ targets) zero d apart l =
     (λ q. apart zero (suc at.0) stand (omega arith) (above at.0 (length stands) at.1) (λ z. let no : ⊥ = omega arith in no) (sym q ∙ at.2 stand))))
 goes_where (stand ∷ stands) (Some to ∷ targets) (suc k) d apart l =
     let miss = ne_eqb stand.address (get_or stands k d).address (apart zero (suc k) d (omega arith) l (λ z. let no : ⊥ = omega arith in no)) in
-    rw miss (goes_where stands targets k d (pairs_tail (λ one other. one.address ≢ other.address) stand stands apart) (below k (length stands) l))
+    rw miss (goes_where stands targets k d (pairs_tail (λ one other. one.address ≢ other.address) stand stands apart) (less k (length stands) l))
 goes_where (stand ∷ stands) (None ∷ targets) (suc k) d apart l =
-    goes_where stands targets k d (pairs_tail (λ one other. one.address ≢ other.address) stand stands apart) (below k (length stands) l)
+    goes_where stands targets k d (pairs_tail (λ one other. one.address ≢ other.address) stand stands apart) (less k (length stands) l)
 
 sent_carried : (stand : Stand) (target : Option ℕ) → sent stand target ≡ record stand { address = unwrap_or target stand.address }
 sent_carried stand None = refl

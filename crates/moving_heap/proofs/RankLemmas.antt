@@ -1,4 +1,4 @@
--- Ranks: how many objects stand below one in the order of addresses.
+-- Ranks: how many objects stand less one in the order of addresses.
 use Rattle.std.proofs.Common.{◌≡◌, ℕ, zero, suc, ◌+◌, ◌<◌, ◌≤◌, ◌≢◌, Bool, true, false, List, [], ◌∷◌, length, get_or, refl, sym, ap, ◌∙◌, arith, cond, eqb, ltb, Some, None}
 use Rattle.std.specs.Prelude.{slice_get}
 use Rattle.std.specs.List.Sorted.{IsPermutation, IsNonDecreasingBy}
@@ -12,9 +12,7 @@ use Rattle.moving_heap.specs.Settled.{AreSettled, IsOrder, DifferentPlaces}
 use Rattle.moving_heap.proofs.ApartLemmas.{pairs_permutation}
 use Rattle.moving_heap.proofs.FindLemmas.{AtMostOne, pairs_tail, find_in_order, find_not_in_order}
 use Rattle.moving_heap.proofs.PlaceLemmas.{different}
-
-below : (a b : ℕ) → suc a < suc b → a < b
-below a b h = omega arith
+use Rattle.list_laws.proofs.Numbers.{less}
 
 above : (a b : ℕ) → a < b → suc a < suc b
 above a b h = omega arith
@@ -35,7 +33,7 @@ none_below (x ∷ xs) address h =
 strictly : (a b : ℕ) → a ≤ b → a ≢ b → a < b
 strictly a b h ne = grind arith
 
--- in the order of addresses, as many stand below one as come before it
+-- in the order of addresses, as many stand less one as come before it
 count_at : (order : List Stand) (k : ℕ) (d : Stand) → IsNonDecreasingBy (λ stand. stand.address) order → DifferentPlaces order → k < length order → count_below order (get_or order k d).address ≡ k
 count_at [] k d sorted apart l = absurd (omega arith)
 count_at (x ∷ xs) zero d sorted apart l = none_below (x ∷ xs) x.address (λ j e lj. sorted zero j e (omega arith) lj)
@@ -43,7 +41,7 @@ count_at (x ∷ xs) (suc k) d sorted apart l =
     let up : x.address ≤ (get_or xs k d).address = sorted zero (suc k) d (omega arith) l in
     let other : x.address ≢ (get_or xs k d).address = apart zero (suc k) d (omega arith) l (λ e. let no : ⊥ = omega arith in no) in
     let low : x.address < (get_or xs k d).address = strictly x.address (get_or xs k d).address up other in
-    let rest = count_at xs k d (λ i j e le lj. sorted (suc i) (suc j) e (omega arith) (above j (length xs) lj)) (pairs_tail (λ one two. one.address ≢ two.address) x xs apart) (below k (length xs) l) in
+    let rest = count_at xs k d (λ i j e le lj. sorted (suc i) (suc j) e (omega arith) (above j (length xs) lj)) (pairs_tail (λ one two. one.address ≢ two.address) x xs apart) (less k (length xs) l) in
     counted (get_or xs k d).address x xs ∙ ap (λ b. cond b 1 0 + count_below xs (get_or xs k d).address) (lt-ltb x.address (get_or xs k d).address low)
     ∙ ap (λ n. 1 + n) rest ∙ omega arith
 
@@ -65,7 +63,7 @@ one_rank stands order rank are is =
     ne (sym (rank_of stands order i d are is li) ∙ eqb-true (count_below stands (get_or order i d).address) rank one
     ∙ sym (eqb-true (count_below stands (get_or order j d).address) rank two) ∙ rank_of stands order j d are is lj))
 
-within : {X : Type 0} (xs : List X) (k : ℕ) (x : X) → slice_get xs k ≡ Some x → k < length xs
+pub within : {X : Type 0} (xs : List X) (k : ℕ) (x : X) → slice_get xs k ≡ Some x → k < length xs
 within [] k x e = cc
 within (y ∷ xs) zero x e = omega arith
 within (y ∷ xs) (suc k) x e = above k (length xs) (within xs k x e)

@@ -15,9 +15,7 @@ use Rattle.cell_rows.specs.Rows.{before, place_in, AreOrdered}
 use Rattle.cell_rows.proofs.RowLemmas.{place_is, place_past}
 use Rattle.moving_heap.specs.Contents.{width_of, counted, count_of, with_count, shape_from, shapes_from, shapes_of, begins, nothing_kept, place_by, stored_shape, AreRising, AreKept}
 use Rattle.moving_heap.proofs.FindLemmas.{AtMostOne, find_at_index, find_nothing}
-
-below : (a b : ℕ) → suc a < suc b → a < b
-below a b h = omega arith
+use Rattle.list_laws.proofs.Numbers.{less as below}
 
 begins_next : (first : ℕ) (part : Part) (parts : List Part) (k : ℕ) → begins part.end parts k ≡ begins first (part ∷ parts) (suc k)
 begins_next first part parts zero = refl

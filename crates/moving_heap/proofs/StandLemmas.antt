@@ -5,9 +5,7 @@ use Rattle.std.proofs.lemmas.List.{drop_more, take_more, take_more_set, drop-set
 use Rattle.moving_heap.specs.declared.stands.Stand.{Stand}
 use Rattle.moving_heap.specs.declared.stands.Moved.{Moved}
 use Rattle.moving_heap.specs.Settled.{numbered, sent_on, followed}
-
-below : (a b : ℕ) → suc a < suc b → a < b
-below a b h = omega arith
+use Rattle.list_laws.proofs.Numbers.{less}
 
 same_rest : (a b : ℕ) → suc a ≡ suc b → a ≡ b
 same_rest a b h = omega arith
@@ -24,7 +22,7 @@ numbered-at n (a ∷ addresses) [] k number d e f same l is = absurd (omega arit
 numbered-at n (a ∷ addresses) (s ∷ sizes) zero number d e f same l is =
     ap (λ (m : ℕ). let stand : Stand = record { number = m; size = s; address = a } in stand) (let first : suc n ≡ number = omega arith in first)
 numbered-at n (a ∷ addresses) (s ∷ sizes) (suc k) number d e f same l is =
-    numbered-at (suc n) addresses sizes k number d e f (same_rest (length sizes) (length addresses) same) (below k (length addresses) l) (omega arith)
+    numbered-at (suc n) addresses sizes k number d e f (same_rest (length sizes) (length addresses) same) (less k (length addresses) l) (omega arith)
 
 pub numbered_push : (n : ℕ) (addresses sizes : List ℕ) (address size number : ℕ) → length sizes ≡ length addresses → number ≡ n + length addresses + 1
     → numbered n (addresses ++ address ∷ []) (sizes ++ size ∷ []) ≡ numbered n addresses sizes ++ record { number = number; size = size; address = address } ∷ []
@@ -64,33 +62,6 @@ first_of_drop : {X : Type 0} (n : ℕ) (xs : List X) (d : X) → get_or xs n d �
 first_of_drop zero xs d = refl
 first_of_drop (suc n) [] d = refl
 first_of_drop (suc n) (x ∷ xs) d = first_of_drop n xs d
-
-pub follow_hit : (moves : List Moved) (addresses : List ℕ) (next i : ℕ) (d : Moved) (e : ℕ) → next < length moves → i < length addresses → (get_or moves next d).old ≡ get_or addresses i e
-    → take i addresses ++ sent_on (drop next moves) (drop i addresses)
-    ≡ take (i + 1) (set addresses i (get_or moves next d).new) ++ sent_on (drop (next + 1) moves) (drop (i + 1) (set addresses i (get_or moves next d).new))
-follow_hit moves addresses next i d e l m same =
-    let new = (get_or moves next d).new in
-    rw (drop_more moves next d l, drop_more addresses i e m, eq-eqb (get_or moves next d).old (get_or addresses i e) same)
-    (sym (append_assoc (take i addresses) (new ∷ []) (sent_on (drop (next + 1) moves) (drop (i + 1) addresses)))
-    ∙ ap (λ front. front ++ sent_on (drop (next + 1) moves) (drop (i + 1) addresses)) (sym (take_more_set addresses i new m))
-    ∙ ap (λ rest. take (i + 1) (set addresses i new) ++ sent_on (drop (next + 1) moves) rest) (sym (drop-set-lt (i + 1) addresses i new (omega arith))))
-
-follow_other : (moves : List Moved) (address : ℕ) (addresses : List ℕ) → ((d : Moved) → 0 < length moves → (get_or moves 0 d).old ≡ address → ⊥)
-    → sent_on moves (address ∷ addresses) ≡ address ∷ sent_on moves addresses
-follow_other [] address addresses none = refl
-follow_other (move ∷ moves) address addresses none = rw (ne_eqb move.old address (none move (omega arith))) refl
-
-pub follow_miss : (moves : List Moved) (addresses : List ℕ) (next i : ℕ) (e : ℕ) → i < length addresses
-    → ((d : Moved) → next < length moves → (get_or moves next d).old ≡ get_or addresses i e → ⊥)
-    → take i addresses ++ sent_on (drop next moves) (drop i addresses) ≡ take (i + 1) addresses ++ sent_on (drop next moves) (drop (i + 1) addresses)
-follow_miss moves addresses next i e m none =
-    let size = length-drop next moves in
-    ap (λ (rest : List ℕ). take i addresses ++ sent_on (drop next moves) rest) (drop_more addresses i e m)
-    ∙ ap (λ (rest : List ℕ). take i addresses ++ rest)
-    (follow_other (drop next moves) (get_or addresses i e) (drop (i + 1) addresses)
-    (λ d some same. none d (omega arith) (ap (λ (move : Moved). move.old) (first_of_drop next moves d) ∙ same)))
-    ∙ sym (append_assoc (take i addresses) (get_or addresses i e ∷ []) (sent_on (drop next moves) (drop (i + 1) addresses)))
-    ∙ ap (λ (front : List ℕ). front ++ sent_on (drop next moves) (drop (i + 1) addresses)) (sym (take_more addresses i e m))
 
 pub followed_none : (moves : List Moved) → sent_on moves [] ≡ []
 followed_none [] = refl

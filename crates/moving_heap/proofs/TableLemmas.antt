@@ -61,21 +61,6 @@ table_added stands order next used group new_stands new_order new_used new_group
       due = inl none;
     })
 
-pub table_kept : (stands : List Stand) (order next new_order new_next : Ordered) (used : ℕ) (group new_group : Group)
-    → IsTable stands order next used group → new_order.low ≡ order.low → new_order.high ≡ order.high → new_next.low ≡ next.low → new_next.high ≡ next.high
-    → new_group.moves ≡ group.moves → group.room ≤ new_group.room → IsTable stands new_order new_next used new_group
-table_kept stands order next new_order new_next used group new_group is ol oh nl nh m room =
-    record {
-      settled = is.settled;
-      ranked = rw (ol, oh) (record { order = is.ranked.order; lower = is.ranked.lower; upper = is.ranked.upper });
-      used_is = is.used_is;
-      room = omega (arith, is.room);
-      due = rw m (elim is.due [
-        | inl none ↦ inl none
-        | inr due ↦ inr (record { settled = due.settled; ranked = rw (nl, nh) (record { order = due.ranked.order; lower = due.ranked.lower; upper = due.ranked.upper }); in_order = due.in_order })
-      ]);
-    }
-
 pub new_is : (stands : List Stand) (number size address : ℕ) → number ≡ length stands + 1 → address ≡ first_place stands
     → ◌≡◌ {A = Stand} (record { number = number; size = size; address = address }) (new_stand stands size)
 new_is stands number size address n a = cc

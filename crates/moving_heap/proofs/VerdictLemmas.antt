@@ -27,7 +27,7 @@ lines_none : (lines : List Move) → eqb (length lines) 0 ≡ true → lines ≡
 lines_none [] e = refl
 lines_none (line ∷ lines) e = absurd (let same = eqb-true (suc (length lines)) 0 e in let no : ⊥ = omega arith in no)
 
-event_none : (event : Option ℕ) → is_some event ≡ false → event ≡ None
+pub event_none : (event : Option ℕ) → is_some event ≡ false → event ≡ None
 event_none None e = refl
 event_none (Some k) e = cc
 

@@ -2,13 +2,15 @@
 use Rattle.std.proofs.Common.{◌≡◌, ◌≢◌, ◌∙◌, ℕ, zero, suc, ◌+◌, ◌<◌, ◌≤◌, ◌⊎◌, inl, inr, Bool, true, false, cond, ◌&&◌, eqb, List, [], ◌∷◌, ◌++◌, length, get_or, set, replicate, refl, ap, sym, subst, arith}
 use Rattle.std.specs.Prelude.{is_none, is_some, Option, Some, None}
 use Rattle.std.specs.Str.{bytes_eq}
-use Rattle.std.proofs.lemmas.Bool.{eqb-true}
+use Rattle.std.proofs.lemmas.Bool.{eqb-true, and_from}
 use Rattle.std.proofs.lemmas.Bool.Decides.{nat_tests}
-use Rattle.std.proofs.lemmas.List.{get_or_append_left, get_or-set_same, get_or-set_other, length-set}
+use Rattle.std.proofs.lemmas.List.{get_or_append_left, get_or-set_same, get_or-set_other, length-set, get_or_default}
 use Rattle.std.proofs.lemmas.List.Quantifiers.{position-Some}
 use Rattle.name_chains.specs.Places.{place_in}
 use Rattle.name_chains.specs.Chains.{bucket_of, is_at, is_first, last_in, IsLinked}
-use Rattle.name_chains.proofs.Places.{bytes_eq-self, contains-place, bytes_eq-same, place-again, place-new}
+use Rattle.name_chains.proofs.Places.{bytes_eq-self, contains-place, place-again, place-new}
+use Rattle.list_laws.proofs.Booleans.{first_true, second_true}
+use Rattle.list_laws.proofs.Contents.{same_bytes}
 
 -- ---- places
 
@@ -30,17 +32,12 @@ pub record IsPlace (names : List (List ℕ)) (name : List ℕ) (place : ℕ) : T
 pub place-is : (names : List (List ℕ)) (name : List ℕ) (place : ℕ) → place_in names name ≡ Some place → IsPlace names name place
 place-is names name place e =
     let at = position-Some (λ (other : List ℕ). bytes_eq name other) names place [] e in
-    let same : get_or names place [] ≡ name = sym (bytes_eq-same name (get_or names place []) at.1) in
+    let same : get_or names place [] ≡ name = sym (same_bytes name (get_or names place []) at.1) in
     record {
       below = at.0;
       named = same;
       first = ap (λ (found : Option ℕ). is_at found place) (ap (place_in names) same ∙ e) ∙ eqb-self place;
     }
-
-pub in-range : {X : Type 0} (xs : List X) (i : ℕ) (d e : X) → i < length xs → get_or xs i d ≡ get_or xs i e
-in-range [] i d e below = absurd (let b : i < 0 = below in omega arith)
-in-range (x ∷ xs) zero d e below = refl
-in-range (x ∷ xs) (suc i) d e below = in-range xs i d e (let b : suc i < suc (length xs) = below in omega arith)
 
 -- ---- what a chain reaches
 
@@ -58,19 +55,6 @@ abbrev pub Reaches : Option ℕ → ℕ → Type 0
 Reaches None place = place < 0
 Reaches (Some other) place = place ≤ other
 
-and-left : (a b : Bool) → (a && b) ≡ true → a ≡ true
-and-left true b e = refl
-and-left false b e = let bad : false ≡ true = e in cc
-
-and-right : (a b : Bool) → (a && b) ≡ true → b ≡ true
-and-right true b e = e
-and-right false b e = let bad : false ≡ true = e in cc
-
-and-both : (a b : Bool) → a ≡ true → b ≡ true → (a && b) ≡ true
-and-both true true e f = refl
-and-both true false e f = f
-and-both false b e f = e
-
 wider_link : (buckets : ℕ) (names : List (List ℕ)) (bucket bound more : ℕ) (at : Option ℕ) → bound ≤ more → Links buckets names bucket bound at → Links buckets names bucket more at
 wider_link buckets names bucket bound more None le is = tt
 wider_link buckets names bucket bound more (Some place) le is = record { below = omega (arith, is.below); first = is.first; hashed = is.hashed }
@@ -86,8 +70,8 @@ links buckets names bucket (suc place) =
         → Links buckets names bucket (suc place) (cond t (Some place) (last_in buckets names bucket place))
     by true e more = record {
       below = omega arith;
-      first = and-left (is_first names place) _ e;
-      hashed = eqb-true (bucket_of buckets (get_or names place [])) bucket (and-right (is_first names place) _ e);
+      first = first_true (is_first names place) _ e;
+      hashed = eqb-true (bucket_of buckets (get_or names place [])) bucket (second_true (is_first names place) _ e);
     }
     by false e more = wider_link buckets names bucket place (suc place) (last_in buckets names bucket place) (omega arith) more
 
@@ -108,7 +92,7 @@ reaches buckets names bucket (suc last) place is =
         = subst (λ (p : ℕ). eqb (bucket_of buckets (get_or names p [])) bucket ≡ true) same
         (ap (λ (b : ℕ). eqb b bucket) is.hashed ∙ eqb-self bucket) in
         let first : is_first names last ≡ true = subst (λ (p : ℕ). is_first names p ≡ true) same is.first in
-        let bad : true ≡ false = sym (and-both (is_first names last) _ first hashed) ∙ e in cc) in
+        let bad : true ≡ false = sym (and_from (is_first names last) _ first hashed) ∙ e in cc) in
         more (record { below = omega (arith, is.below, other); first = is.first; hashed = is.hashed })
 
 -- ---- a search
@@ -140,7 +124,7 @@ sought-all names name last before bucket is e below =
 pub sought-found : (buckets : ℕ) (names : List (List ℕ)) (name : List ℕ) (place : ℕ) → Sought buckets names name (Some place)
     → bytes_eq (get_or names place []) name ≡ true → place_in names name ≡ Some place
 sought-found buckets names name place sought e =
-    ap (place_in names) (sym (bytes_eq-same (get_or names place []) name e)) ∙ first-place names place sought.links.first
+    ap (place_in names) (sym (same_bytes (get_or names place []) name e)) ∙ first-place names place sought.links.first
 
 pub sought-next : (names : List (List ℕ)) (name : List ℕ) (last before : List (Option ℕ)) (place : ℕ) → IsLinked names last before
     → Sought (length last) names name (Some place) → bytes_eq (get_or names place []) name ≡ false
@@ -185,7 +169,7 @@ nearer names name last before place is sought =
 -- ---- one more name
 
 is-in : (names : List (List ℕ)) (place : ℕ) → place < length names → is_some (place_in names (get_or names place [])) ≡ true
-is-in names place below = by (place_in names (get_or names place [])) (contains-place names (get_or names place []) (place, below, in-range names place (get_or names place []) [] below))
+is-in names place below = by (place_in names (get_or names place [])) (contains-place names (get_or names place []) (place, below, get_or_default names place (get_or names place []) [] below))
   where
     by : (found : Option ℕ) → is_none found ≡ false → is_some found ≡ true
     by None e = let bad : true ≡ false = e in cc
@@ -199,7 +183,7 @@ place-kept names one name known = by (place_in names one) refl
     known_at found is false e none at = refl
     known_at None is true e none at = let bad : false ≡ true = is in cc
     known_at (Some p) is true e none at =
-        let same : one ≡ name = bytes_eq-same one name e in
+        let same : one ≡ name = same_bytes one name e in
         let bad : None ≡ Some p = sym none ∙ ap (place_in names) same ∙ at in cc
 
     by : (found : Option ℕ) → place_in names one ≡ found → place_in (names ++ one ∷ []) name ≡ place_in names name

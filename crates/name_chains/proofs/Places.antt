@@ -8,6 +8,7 @@ use Rattle.std.proofs.lemmas.List.Sums.{prefix_len-le-length, prefix_len_passes,
 use Rattle.std.proofs.lemmas.Bool.Decides.{nat_tests}
 use Rattle.std.proofs.lemmas.Slice.Eq.{bytes_eq-Decides}
 use Rattle.name_chains.specs.Places.{place_in}
+use Rattle.list_laws.proofs.Contents.{same_bytes}
 
 pub bytes_eq-self : (name : List ℕ) → bytes_eq name name ≡ true
 bytes_eq-self name = (bytes_eq-Decides name name).1 refl
@@ -49,17 +50,14 @@ pub position_push : {X : Type 0} (p : X → Bool) (xs : List X) (y : X)
     → position p (xs ++ y ∷ []) ≡ cond (is_some (position p xs)) (position p xs) (cond (p y) (Some (length xs)) None)
 position_push {X} p xs y = grind (arith, nat_tests, position_or_len_push p xs y, length-append xs (y ∷ []), prefix_len-le-length {X = X})
 
-pub bytes_eq-same : (a b : List ℕ) → bytes_eq a b ≡ true → a ≡ b
-bytes_eq-same a b e = (bytes_eq-Decides a b).0 e
-
 pub bytes_eq-flip : (a b : List ℕ) → bytes_eq a b ≡ bytes_eq b a
 bytes_eq-flip a b = by (bytes_eq a b) (bytes_eq b a) refl refl
   where
     by : (x y : Bool) → bytes_eq a b ≡ x → bytes_eq b a ≡ y → bytes_eq a b ≡ bytes_eq b a
     by true true e f = e ∙ sym f
     by false false e f = e ∙ sym f
-    by true false e f = e ∙ sym ((bytes_eq-Decides b a).1 (sym (bytes_eq-same a b e)))
-    by false true e f = (bytes_eq-Decides a b).1 (sym (bytes_eq-same b a f)) ∙ sym f
+    by true false e f = e ∙ sym ((bytes_eq-Decides b a).1 (sym (same_bytes a b e)))
+    by false true e f = (bytes_eq-Decides a b).1 (sym (same_bytes b a f)) ∙ sym f
 
 again_at : (names : List (List ℕ)) (one name : List ℕ) → is_some (place_in names one) ≡ true
     → (found : Option ℕ) → place_in names name ≡ found → (same : Bool) → bytes_eq name one ≡ same
@@ -67,7 +65,7 @@ again_at : (names : List (List ℕ)) (one name : List ℕ) → is_some (place_in
 again_at names one name known (Some place) is same e = refl
 again_at names one name known None is false e = refl
 again_at names one name known None is true e =
-    let eq : name ≡ one = bytes_eq-same name one e in
+    let eq : name ≡ one = same_bytes name one e in
     let none : place_in names one ≡ None = subst (λ (n : List ℕ). place_in names n ≡ None) eq is in
     let bad : is_some {T = ℕ} None ≡ true = sym (ap is_some none) ∙ known in
     cc
@@ -84,7 +82,7 @@ new_at : (names : List (List ℕ)) (one name : List ℕ) → place_in names one 
 new_at names one name new None is same e = refl
 new_at names one name new (Some place) is false e = refl
 new_at names one name new (Some place) is true e =
-    let eq : name ≡ one = bytes_eq-same name one e in
+    let eq : name ≡ one = same_bytes name one e in
     let none : place_in names name ≡ None = subst (λ (n : List ℕ). place_in names n ≡ None) (sym eq) new in
     let bad : Some place ≡ None = sym is ∙ none in
     cc

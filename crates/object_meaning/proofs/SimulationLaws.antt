@@ -14,7 +14,7 @@ use Rattle.object_meaning.proofs.OutcomeLaws.{gives_end, gives_one, gives_some}
 
 -- ---- steps after steps
 
-goes_on : {E A : Type 0} (step : A → Next E A) (count more : ℕ) (next : Next E A) → goes step (count + more) next ≡ goes step more (goes step count next)
+pub goes_on : {E A : Type 0} (step : A → Next E A) (count more : ℕ) (next : Next E A) → goes step (count + more) next ≡ goes step more (goes step count next)
 goes_on step zero more next = rw (zero-add more) refl
 goes_on step (suc count) more next = rw (suc-add count more) (goes_on step count more (advance step next))
 

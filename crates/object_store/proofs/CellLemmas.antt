@@ -25,9 +25,7 @@ use Rattle.object_store.specs.Words.{datum}
 use Rattle.sp_ids.specs.declared.ends.Trap.TheVariants.{Null}
 use Rattle.object_meaning.specs.Accesses.{Place, accessed, within}
 use Rattle.object_store.specs.Stored.{is_full, HasCells, AreStored, bytes_taken, held, written, reached, object_at, objects_of, blank_word, blank_words}
-
-below : (a b : ℕ) → suc a < suc b → a < b
-below a b h = omega arith
+use Rattle.list_laws.proofs.Numbers.{less}
 
 -- a further object
 pub blank_more : (fields : List Cell) (count : ℕ) → blank_words fields (count + 1) ≡ blank_words fields count ++ map blank_word fields
@@ -68,7 +66,7 @@ mapped_length f xs i = let m = length-map (take i xs) f in let t = length-take i
 there : {X : Type 0} (F : Shape → X) (d : X) (shapes : List Shape) (k : ℕ) (e : Shape) → k < length shapes → option_map_or F (slice_get shapes k) d ≡ F (get_or shapes k e)
 there F d [] k e l = absurd (omega arith)
 there F d (shape ∷ shapes) zero e l = refl
-there F d (shape ∷ shapes) (suc k) e l = there F d shapes k e (below k (length shapes) l)
+there F d (shape ∷ shapes) (suc k) e l = there F d shapes k e (less k (length shapes) l)
 
 absent : {X : Type 0} (F : Shape → X) (d : X) (shapes : List Shape) (k : ℕ) → length shapes ≤ k → option_map_or F (slice_get shapes k) d ≡ d
 absent F d [] k l = refl

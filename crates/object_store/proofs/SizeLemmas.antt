@@ -1,7 +1,7 @@
 -- Which offsets in an object are those of cells, all of which have 8 bytes.
 use Rattle.std.proofs.Common.{◌≡◌, ◌≢◌, ℕ, ◌+◌, ◌*◌, ◌/◌, ◌%◌, ◌<◌, ◌≤◌, Bool, true, false, inl, inr, List, length, refl, arith, get_or}
 use Rattle.std.specs.Prelude.{◌==◌, ◌||◌, not, nat_lt, if◌then◌else◌, ◌⊎◌, Ok, Err}
-use Rattle.std.proofs.lemmas.Bool.{lt-ltb, le-ltb}
+use Rattle.std.proofs.lemmas.Bool.{lt-ltb, le-ltb, or_left}
 use Rattle.std.proofs.lemmas.Bool.Decides.{eqb_tells}
 use Rattle.std.proofs.Math.Nat.{div-add-mod, mul-div-le}
 use Rattle.sp_ids.specs.declared.ends.Trap.TheVariants.{Bounds, Kind}
@@ -15,9 +15,6 @@ use Rattle.object_meaning.proofs.AccessLaws.{within_is}
 odd : (b : Bool) (n : ℕ) → n ≢ 0 → (b || not (n == 0)) ≡ true
 odd true n h = refl
 odd false n h = elim (eqb_tells n 0) [ inl is ↦ absurd (h is.1) | inr is ↦ rw is.0 refl ]
-
-either : (b c : Bool) → b ≡ true → (b || c) ≡ true
-either b c h = rw h refl
 
 past : (count many offset : ℕ) → count * many ≤ offset / 8 → nat_lt (count * (8 * many)) (offset + 8) ≡ true
 past count many offset h =
@@ -34,7 +31,7 @@ pub no_cell : (at : Pointer) (fields : List Cell) (asked : Cell) (count : ℕ) �
     → within at fields asked count ≡ Err Bounds
 no_cell at fields asked count (inl h) = rw (within_is at fields asked count, odd (nat_lt (count * (8 * length fields)) (at.offset + 8)) (at.offset % 8) h) refl
 no_cell at fields asked count (inr h) =
-    rw (within_is at fields asked count, either (nat_lt (count * (8 * length fields)) (at.offset + 8)) (not (at.offset % 8 == 0)) (past count (length fields) at.offset h)) refl
+    rw (within_is at fields asked count, or_left (nat_lt (count * (8 * length fields)) (at.offset + 8)) (not (at.offset % 8 == 0)) (past count (length fields) at.offset h)) refl
 
 pub some_cell : (at : Pointer) (fields : List Cell) (asked : Cell) (count : ℕ) → at.offset % 8 ≡ 0 → at.offset / 8 < count * length fields
     → within at fields asked count

@@ -2,7 +2,7 @@
 use Rattle.std.proofs.Common.{◌≡◌, ◌∙◌, inl, inr, ℕ, zero, suc, cond, Bool, true, false, List, Option, Some, None, refl, ap, sym, nat_lt, slice_get}
 use Rattle.std.specs.Prelude.{◌&&◌}
 use Rattle.std.specs.Option.{option_map_or}
-use Rattle.std.proofs.lemmas.Bool.{false≢true}
+use Rattle.std.proofs.lemmas.Bool.{false≢true, and_parts, or_cases, or_left, and_from, or_right}
 use Rattle.sp_ids.specs.declared.ids.FuncId.{FuncId}
 use Rattle.ir_ast.specs.declared.ops.Operand.{Operand}
 use Rattle.ir_ast.specs.declared.ops.Operand.TheVariants.{Value, Int, Null, Fun}
@@ -19,7 +19,8 @@ use Rattle.pair_facts.specs.declared.bases.Base.TheVariants.{Any, Named}
 use Rattle.pair_facts.specs.Lines.{lines_at, line_in, line_before, phis_in, head_at, group_in, gives, operand_at, is_null, is_select, same_operand}
 use Rattle.pair_facts.specs.Pairs.{Pairs, is_named, is_base_named, own_pairs, at_entry, without, with_own, with_given, are_own, follows, follows_named, selected, given_pairs, after, base_index, relocates_base, has_base, relocated_pairs, member_pairs, after_group, along, base_along, on_edge}
 use Rattle.pair_facts.specs.Paths.{behind, pairs_at, pairs_at_end, Arrives, start, went}
-use Rattle.pair_facts.proofs.BoolLemmas.{both, joined, either, or_first, or_second, and_false, list_any_weaker, list_any_never}
+use Rattle.list_laws.proofs.Booleans.{and_false}
+use Rattle.list_laws.proofs.Tests.{any_never, any_weaker}
 
 abbrev pub Fresh : Pairs → Type 0
 Fresh pairs = (operand : Operand) (base : Base) → pairs operand base ≡ true → pairs operand Any ≡ true
@@ -59,8 +60,8 @@ with_own_fresh value own pairs own_fresh fresh operand base h = by (is_named val
 own_fresh : (pairs : Pairs) (operands : List Operand) → Fresh pairs → are_own pairs operands ≡ true
     → (pairs (operand_at operands 1) Any && pairs (operand_at operands 2) Any) ≡ true
 own_fresh pairs operands fresh h =
-    let two = both (pairs (operand_at operands 1) (Named (operand_at operands 1))) (pairs (operand_at operands 2) (Named (operand_at operands 2))) h in
-    joined (pairs (operand_at operands 1) Any) (pairs (operand_at operands 2) Any) (fresh _ _ two.0) (fresh _ _ two.1)
+    let two = and_parts (pairs (operand_at operands 1) (Named (operand_at operands 1))) (pairs (operand_at operands 2) (Named (operand_at operands 2))) h in
+    and_from (pairs (operand_at operands 1) Any) (pairs (operand_at operands 2) Any) (fresh _ _ two.0) (fresh _ _ two.1)
 
 -- what a select that follows another says of the operands
 pub follows_pairs : (pairs : Pairs) (operands : List Operand) (line : Line) → follows pairs operands line ≡ true
@@ -70,17 +71,17 @@ follows_pairs pairs operands line h =
     let first = pairs (operand_at operands 1) (Named (operand_at line.inst.operands 1)) in
     let second = pairs (operand_at operands 2) (Named (operand_at line.inst.operands 2)) in
     let same = same_operand (operand_at line.inst.operands 0) (operand_at operands 0) in
-    let outer = both (is_select line.inst.op && is_pointer line.inst.ty) (same && (first && second)) h in
-    let inner = both same (first && second) outer.1 in
-    both first second inner.1
+    let outer = and_parts (is_select line.inst.op && is_pointer line.inst.ty) (same && (first && second)) h in
+    let inner = and_parts same (first && second) outer.1 in
+    and_parts first second inner.1
 
 follows_fresh : (pairs : Pairs) (last : Option Line) (operands : List Operand) (operand : Operand) → Fresh pairs → follows_named pairs last operands operand ≡ true
     → (pairs (operand_at operands 1) Any && pairs (operand_at operands 2) Any) ≡ true
 follows_fresh pairs None operands (Value value) fresh h = absurd (false≢true h)
 follows_fresh pairs (Some line) operands (Value value) fresh h =
-    let two = both (gives line value.0) (follows pairs operands line) h in
+    let two = and_parts (gives line value.0) (follows pairs operands line) h in
     let each = follows_pairs pairs operands line two.1 in
-    joined (pairs (operand_at operands 1) Any) (pairs (operand_at operands 2) Any) (fresh _ _ each.0) (fresh _ _ each.1)
+    and_from (pairs (operand_at operands 1) Any) (pairs (operand_at operands 2) Any) (fresh _ _ each.0) (fresh _ _ each.1)
 follows_fresh pairs last operands (Int number) fresh h = absurd (false≢true h)
 follows_fresh pairs last operands Null fresh h = absurd (false≢true h)
 follows_fresh pairs last operands (Fun func) fresh h = absurd (false≢true h)
@@ -89,8 +90,8 @@ selected_fresh : (pairs : Pairs) (last : Option Line) (operands : List Operand) 
     → selected pairs last operands value Any ≡ true
 selected_fresh pairs last operands value Any fresh h = h
 selected_fresh pairs last operands value (Named operand) fresh h =
-    elim (either (is_named value operand && are_own pairs operands) (follows_named pairs last operands operand) h) [
-      | inl own ↦ own_fresh pairs operands fresh (both (is_named value operand) (are_own pairs operands) own).1
+    elim (or_cases (is_named value operand && are_own pairs operands) (follows_named pairs last operands operand) h) [
+      | inl own ↦ own_fresh pairs operands fresh (and_parts (is_named value operand) (are_own pairs operands) own).1
       | inr next ↦ follows_fresh pairs last operands operand fresh next
     ]
 
@@ -99,12 +100,12 @@ selected_fresh pairs last operands value (Named operand) fresh h =
 given_fresh : (pairs : Pairs) (last : Option Line) (inst : Instruction) (op : Op) (value : ℕ) → Fresh pairs
     → (base : Base) → given_pairs pairs last inst op value base ≡ true → given_pairs pairs last inst op value Any ≡ true
 given_fresh pairs last inst Load value fresh base h =
-    let two = both (is_pointer inst.ty) (own_pairs value base) h in
-    joined (is_pointer inst.ty) true two.0 refl
+    let two = and_parts (is_pointer inst.ty) (own_pairs value base) h in
+    and_from (is_pointer inst.ty) true two.0 refl
 given_fresh pairs last inst (Gep elem index_width place) value fresh base h = fresh (operand_at inst.operands 0) base h
 given_fresh pairs last inst Select value fresh base h =
-    let two = both (is_pointer inst.ty) (selected pairs last inst.operands value base) h in
-    joined (is_pointer inst.ty) (selected pairs last inst.operands value Any) two.0 (selected_fresh pairs last inst.operands value base fresh two.1)
+    let two = and_parts (is_pointer inst.ty) (selected pairs last inst.operands value base) h in
+    and_from (is_pointer inst.ty) (selected pairs last inst.operands value Any) two.0 (selected_fresh pairs last inst.operands value base fresh two.1)
 given_fresh pairs last inst op value fresh base h = absurd (false≢true h)
 
 after_fresh : (pairs : Pairs) (last : Option Line) (line : Line) → Fresh pairs → Fresh (after pairs last line)
@@ -122,28 +123,28 @@ relocated_fresh : (entries : List Operand) (group : List Line) (entry : ℕ) (ba
     → relocated_pairs entries group entry Any ≡ true
 relocated_fresh entries group entry Any h = h
 relocated_fresh entries group entry (Named (Value value)) h =
-    or_first (has_base group entry) (is_null (operand_at entries entry))
-    (list_any_weaker (λ line. gives line value.0 && relocates_base entry line) (relocates_base entry) group
-    (λ line both_hold. (both (gives line value.0) (relocates_base entry line) both_hold).1) h)
-relocated_fresh entries group entry (Named Null) h = or_second (has_base group entry) (is_null (operand_at entries entry)) h
+    or_left (has_base group entry) (is_null (operand_at entries entry))
+    (any_weaker (λ line. gives line value.0 && relocates_base entry line) (relocates_base entry) group
+    (λ line both_hold. (and_parts (gives line value.0) (relocates_base entry line) both_hold).1) h)
+relocated_fresh entries group entry (Named Null) h = or_right (has_base group entry) (is_null (operand_at entries entry)) h
 relocated_fresh entries group entry (Named (Int number)) h = absurd (false≢true h)
 relocated_fresh entries group entry (Named (Fun func)) h = absurd (false≢true h)
 
 member_fresh : (entries : List Operand) (group : List Line) (value : ℕ) (line : Line) (op : Op) (base : Base) → member_pairs entries group value line op base ≡ true
     → member_pairs entries group value line op Any ≡ true
 member_fresh entries group value line GcResult base h =
-    let two = both (is_pointer line.inst.ty) (own_pairs value base) h in
-    joined (is_pointer line.inst.ty) true two.0 refl
+    let two = and_parts (is_pointer line.inst.ty) (own_pairs value base) h in
+    and_from (is_pointer line.inst.ty) true two.0 refl
 member_fresh entries group value line GcRelocate base h = relocated_fresh entries group (base_index line) base h
 member_fresh entries group value line op base h = absurd (false≢true h)
 
 group_fresh : (entries : List Operand) (group : List Line) → Fresh (after_group entries group)
 group_fresh entries group Null base h = refl
 group_fresh entries group (Value value) base h =
-    list_any_weaker (λ line. gives line value.0 && member_pairs entries group value.0 line line.inst.op base)
+    any_weaker (λ line. gives line value.0 && member_pairs entries group value.0 line line.inst.op base)
     (λ line. gives line value.0 && member_pairs entries group value.0 line line.inst.op Any) group
-    (λ line holds. let two = both (gives line value.0) (member_pairs entries group value.0 line line.inst.op base) holds in
-    joined (gives line value.0) (member_pairs entries group value.0 line line.inst.op Any) two.0 (member_fresh entries group value.0 line line.inst.op base two.1)) h
+    (λ line holds. let two = and_parts (gives line value.0) (member_pairs entries group value.0 line line.inst.op base) holds in
+    and_from (gives line value.0) (member_pairs entries group value.0 line line.inst.op Any) two.0 (member_fresh entries group value.0 line line.inst.op base two.1)) h
 group_fresh entries group (Int number) base h = absurd (false≢true h)
 group_fresh entries group (Fun func) base h = absurd (false≢true h)
 
@@ -222,7 +223,7 @@ null_literal _ (function func) = refl
 group_literal_base : (entries : List Operand) (group : List Line) (operand base : Operand) → IsLiteral base → after_group entries group operand (Named base) ≡ false
 group_literal_base entries group Null base literal = null_literal base literal
 group_literal_base entries group (Value value) base literal =
-    list_any_never (λ line. gives line value.0 && member_pairs entries group value.0 line line.inst.op (Named base)) group
+    any_never (λ line. gives line value.0 && member_pairs entries group value.0 line line.inst.op (Named base)) group
     (λ line. ap (λ b. gives line value.0 && b) (member_literal entries group value.0 line line.inst.op base literal) ∙ and_false (gives line value.0))
 group_literal_base entries group (Int number) base literal = refl
 group_literal_base entries group (Fun func) base literal = refl
@@ -291,8 +292,8 @@ entry_fresh : (func : Function) → Fresh (at_entry func)
 entry_fresh func Null base h = refl
 entry_fresh func (Value value) base h =
     let pointer = option_map_or (λ arg. is_pointer arg.ty) (slice_get func.args value.0) false in
-    let two = both pointer (own_pairs value.0 base) h in
-    joined pointer true two.0 refl
+    let two = and_parts pointer (own_pairs value.0 base) h in
+    and_from pointer true two.0 refl
 entry_fresh func (Int number) base h = absurd (false≢true h)
 entry_fresh func (Fun other) base h = absurd (false≢true h)
 

@@ -16,17 +16,12 @@ use Rattle.pair_facts.specs.declared.bases.Base.{Base}
 use Rattle.pair_facts.specs.declared.bases.Base.TheVariants.{Named}
 use Rattle.pair_facts.specs.Lines.{line_in, no_line, head_at, group_in, gives, is_given, named}
 use Rattle.pair_facts.specs.Pairs.{member_pairs, relocates_base, relocated_pairs, after_group}
-use Rattle.pair_facts.proofs.BoolLemmas.{or_false}
 use Rattle.pair_facts.proofs.PlaceLaws.{head_here}
+use Rattle.list_laws.proofs.Booleans.{or_false}
 
 -- ---- lists
 
-get_dropped : {A : Type 0} (xs : List A) (n i : ℕ) → slice_get (drop n xs) i ≡ slice_get xs (n + i)
-get_dropped xs zero i = let same : 0 + i ≡ i = omega arith in rw same refl
-get_dropped [] (suc n) i = refl
-get_dropped (x ∷ xs) (suc n) i = let same : suc n + i ≡ suc (n + i) = omega arith in rw same (get_dropped xs n i)
-
-or_dropped : {A : Type 0} (xs : List A) (n i : ℕ) (d : A) → get_or (drop n xs) i d ≡ get_or xs (n + i) d
+pub or_dropped : {A : Type 0} (xs : List A) (n i : ℕ) (d : A) → get_or (drop n xs) i d ≡ get_or xs (n + i) d
 or_dropped xs zero i d = let same : 0 + i ≡ i = omega arith in rw same refl
 or_dropped [] (suc n) i d = refl
 or_dropped (x ∷ xs) (suc n) i d = let same : suc n + i ≡ suc (n + i) = omega arith in rw same (or_dropped xs n i d)
@@ -182,7 +177,7 @@ stands_member lines head i line is at =
 abbrev pub GivesOnly : List Line → ℕ → ℕ → Type 0
 GivesOnly lines value place = (other : ℕ) → (line_in lines other).to ≡ Some value → other ≡ place
 
-not_given : (line : Line) (value : ℕ) → (line.to ≡ Some value → ⊥) → gives line value ≡ false
+pub not_given : (line : Line) (value : ℕ) → (line.to ≡ Some value → ⊥) → gives line value ≡ false
 not_given line value other = elim (cases_Bool (gives line value)) [
   | inl h ↦ absurd (other (given_is line value h))
   | inr h ↦ h

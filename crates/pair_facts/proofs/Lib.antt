@@ -1,4 +1,3 @@
-pub mod BoolLemmas
 pub mod FreshLaws
 pub mod PlaceLaws
 pub mod GroupLaws

@@ -3,7 +3,7 @@ use Rattle.std.proofs.Common.{◌≡◌, ◌∙◌, ◌⊎◌, inl, inr, ℕ, ze
 use Rattle.std.specs.Prelude.{◌&&◌, ◌==◌}
 use Rattle.std.specs.List.{list_any}
 use Rattle.std.specs.Option.{option_map_or}
-use Rattle.std.proofs.lemmas.Bool.{false≢true, cases_lt, eqb-true, eq-eqb}
+use Rattle.std.proofs.lemmas.Bool.{false≢true, cases_lt, eqb-true, eq-eqb, and_parts, or_cases, or_left, and_from}
 use Rattle.std.proofs.lemmas.List.Sums.{prefix_len_passes}
 use Rattle.std.proofs.lemmas.Option.{none-some, get_or_from_slice_get}
 use Rattle.ir_ast.specs.declared.ops.Operand.{Operand}
@@ -23,10 +23,10 @@ use Rattle.pair_facts.specs.declared.bases.Base.TheVariants.{Named}
 use Rattle.pair_facts.specs.Lines.{lines_at, line_in, no_line, line_before, phis_in, head_at, group_in, gives, operand_at, is_select, is_relocate, named}
 use Rattle.pair_facts.specs.Pairs.{Pairs, is_named, is_base_named, at_entry, without, with_own, with_given, are_own, follows, follows_named, selected, given_pairs, after, base_index, derived_index, relocates_base, relocated_pairs, member_pairs, after_group, along, on_edge}
 use Rattle.pair_facts.specs.Paths.{behind, pairs_at, pairs_at_end, Arrives, start, went}
-use Rattle.pair_facts.proofs.BoolLemmas.{both, joined, either, or_first, list_any_weaker}
 use Rattle.pair_facts.proofs.FreshLaws.{IsSound, int, function, follows_pairs, pairs_sound, arrives_sound}
 use Rattle.pair_facts.proofs.PlaceLaws.{IsPlainAt, after_given, behind_line}
 use Rattle.pair_facts.proofs.GroupLaws.{given_is}
+use Rattle.list_laws.proofs.Tests.{any_weaker}
 
 abbrev pub Own : Pairs → Type 0
 Own pairs = (operand : Operand) (value : ℕ) → pairs operand (Named (named value)) ≡ true → pairs (named value) (Named (named value)) ≡ true
@@ -53,7 +53,7 @@ abbrev LastOwn : Pairs → Option Line → Type 0
 LastOwn pairs last = (line : Line) (value : ℕ) → last ≡ Some line → is_select line.inst.op ≡ true → is_pointer line.inst.ty ≡ true → line.to ≡ Some value
     → are_own pairs line.inst.operands ≡ true → pairs (named value) (Named (named value)) ≡ true
 
-named_is : (value : ℕ) (operand : Operand) → is_named value operand ≡ true → operand ≡ named value
+pub named_is : (value : ℕ) (operand : Operand) → is_named value operand ≡ true → operand ≡ named value
 named_is value (Value other) h = ap (λ (n : ℕ). named n) (sym (eqb-true value other.0 h))
 named_is value (Int number) h = absurd (false≢true h)
 named_is value Null h = absurd (false≢true h)
@@ -79,9 +79,9 @@ own_before pairs last line value operand is h = by (is_named value operand) refl
 select_given : (pairs : Pairs) (last : Option Line) (inst : Instruction) (op : Op) (value : ℕ) → is_select op ≡ true → is_pointer inst.ty ≡ true
     → are_own pairs inst.operands ≡ true → given_pairs pairs last inst op value (Named (named value)) ≡ true
 select_given pairs last inst Select value is pointer own =
-    joined (is_pointer inst.ty) (selected pairs last inst.operands value (Named (named value))) pointer
-    (or_first (is_named value (named value) && are_own pairs inst.operands) (follows_named pairs last inst.operands (named value))
-    (joined (is_named value (named value)) (are_own pairs inst.operands) (itself value) own))
+    and_from (is_pointer inst.ty) (selected pairs last inst.operands value (Named (named value))) pointer
+    (or_left (is_named value (named value) && are_own pairs inst.operands) (follows_named pairs last inst.operands (named value))
+    (and_from (is_named value (named value)) (are_own pairs inst.operands) (itself value) own))
   where
     itself : (value : ℕ) → is_named value (named value) ≡ true
     itself value = eq-eqb value value refl
@@ -92,14 +92,14 @@ select_own : (pairs : Pairs) (last : Option Line) (line : Line) (value : ℕ) �
 select_own pairs last line value is pointer to own =
     let first = operand_at line.inst.operands 1 in
     let second = operand_at line.inst.operands 2 in
-    let two = both (after pairs last line first (Named first)) (after pairs last line second (Named second)) own in
+    let two = and_parts (after pairs last line first (Named first)) (after pairs last line second (Named second)) own in
     elim (own_before pairs last line value first to two.0) [
       | inl done ↦ done
       | inr one ↦ elim (own_before pairs last line value second to two.1) [
         | inl done ↦ done
         | inr other ↦ after_given pairs last line (Named (named value)) value to
             ∙ select_given (without value pairs) last line.inst line.inst.op value is pointer
-            (joined (without value pairs first (Named first)) (without value pairs second (Named second)) one other)
+            (and_from (without value pairs first (Named first)) (without value pairs second (Named second)) one other)
       ]
     ]
 
@@ -108,18 +108,18 @@ follows_own : (pairs left : Pairs) (last : Option Line) (operands : List Operand
     → follows_named left last operands (named value) ≡ true → pairs (named value) (Named (named value)) ≡ true
 follows_own pairs left None operands value sound own last_own weaker h = absurd (false≢true h)
 follows_own pairs left (Some line) operands value sound own last_own weaker h =
-    let two = both (gives line value) (follows left operands line) h in
+    let two = and_parts (gives line value) (follows left operands line) h in
     let each = follows_pairs left operands line two.1 in
-    let kind = both (is_select line.inst.op) (is_pointer line.inst.ty) (kind_of left operands line two.1) in
+    let kind = and_parts (is_select line.inst.op) (is_pointer line.inst.ty) (kind_of left operands line two.1) in
     let first = operand_at line.inst.operands 1 in
     let second = operand_at line.inst.operands 2 in
     last_own line value refl kind.0 kind.1 (given_is line value two.0)
-    (joined (pairs first (Named first)) (pairs second (Named second))
+    (and_from (pairs first (Named first)) (pairs second (Named second))
     (own_base pairs (operand_at operands 1) first sound own (weaker (operand_at operands 1) (Named first) each.0))
     (own_base pairs (operand_at operands 2) second sound own (weaker (operand_at operands 2) (Named second) each.1)))
   where
     kind_of : (left : Pairs) (operands : List Operand) (line : Line) → follows left operands line ≡ true → (is_select line.inst.op && is_pointer line.inst.ty) ≡ true
-    kind_of left operands line h = (both (is_select line.inst.op && is_pointer line.inst.ty) _ h).0
+    kind_of left operands line h = (and_parts (is_select line.inst.op && is_pointer line.inst.ty) _ h).0
 
 -- ---- a line
 
@@ -128,13 +128,13 @@ given_own : (pairs left : Pairs) (last : Option Line) (inst : Instruction) (op :
     → ((operand : Operand) (base : Base) → left operand base ≡ true → pairs operand base ≡ true)
     → (value == other) ≡ false → given_pairs left last inst op value (Named (named other)) ≡ true → pairs (named other) (Named (named other)) ≡ true
 given_own pairs left last inst Load value other sound own last_own weaker apart h =
-    absurd (false≢true (sym apart ∙ (both (is_pointer inst.ty) (value == other) h).1))
+    absurd (false≢true (sym apart ∙ (and_parts (is_pointer inst.ty) (value == other) h).1))
 given_own pairs left last inst (Gep elem index_width place) value other sound own last_own weaker apart h =
     own (operand_at inst.operands 0) other (weaker (operand_at inst.operands 0) (Named (named other)) h)
 given_own pairs left last inst Select value other sound own last_own weaker apart h =
-    let chosen = (both (is_pointer inst.ty) (selected left last inst.operands value (Named (named other))) h).1 in
-    elim (either ((value == other) && are_own left inst.operands) (follows_named left last inst.operands (named other)) chosen) [
-      | inl itself ↦ absurd (false≢true (sym apart ∙ (both (value == other) (are_own left inst.operands) itself).0))
+    let chosen = (and_parts (is_pointer inst.ty) (selected left last inst.operands value (Named (named other))) h).1 in
+    elim (or_cases ((value == other) && are_own left inst.operands) (follows_named left last inst.operands (named other)) chosen) [
+      | inl itself ↦ absurd (false≢true (sym apart ∙ (and_parts (value == other) (are_own left inst.operands) itself).0))
       | inr next ↦ follows_own pairs left last inst.operands other sound own last_own weaker next
     ]
 given_own pairs left last inst op value other sound own last_own weaker apart h = absurd (false≢true h)
@@ -167,7 +167,7 @@ after_own pairs last line sound own last_own operand other h = by line.to h
 
 list_any_found : {A : Type 0} (p : A → Bool) (xs : List A) → list_any p xs ≡ true → (x : A) × (p x ≡ true)
 list_any_found p [] h = absurd (false≢true h)
-list_any_found p (x ∷ xs) h = elim (either (p x) (list_any p xs) h) [
+list_any_found p (x ∷ xs) h = elim (or_cases (p x) (list_any p xs) h) [
   | inl here ↦ (x, here)
   | inr later ↦ list_any_found p xs later
 ]
@@ -180,20 +180,20 @@ relocate_pairs entries group value line op base is h = absurd (false≢true is)
 base_own : (entries : List Operand) (group : List Line) (entry other : ℕ) → relocated_pairs entries group entry (Named (named other)) ≡ true
     → after_group entries group (named other) (Named (named other)) ≡ true
 base_own entries group entry other h =
-    list_any_weaker (λ line. gives line other && relocates_base entry line)
+    any_weaker (λ line. gives line other && relocates_base entry line)
     (λ line. gives line other && member_pairs entries group other line line.inst.op (Named (named other))) group
     (λ line holds.
-    let two = both (gives line other) (relocates_base entry line) holds in
-    let kind = both (is_relocate line.inst.op) (base_index line == entry && derived_index line == entry) two.1 in
-    let same : base_index line ≡ entry = eqb-true (base_index line) entry (both (base_index line == entry) (derived_index line == entry) kind.1).0 in
-    joined (gives line other) (member_pairs entries group other line line.inst.op (Named (named other))) two.0
+    let two = and_parts (gives line other) (relocates_base entry line) holds in
+    let kind = and_parts (is_relocate line.inst.op) (base_index line == entry && derived_index line == entry) two.1 in
+    let same : base_index line ≡ entry = eqb-true (base_index line) entry (and_parts (base_index line == entry) (derived_index line == entry) kind.1).0 in
+    and_from (gives line other) (member_pairs entries group other line line.inst.op (Named (named other))) two.0
     (relocate_pairs entries group other line line.inst.op (Named (named other)) kind.0
     (subst (λ (e : ℕ). relocated_pairs entries group e (Named (named other)) ≡ true) (sym same) h))) h
 
 member_own : (entries : List Operand) (group : List Line) (value other : ℕ) (line : Line) (op : Op) → after_group entries group (named value) (Named (named other)) ≡ true
     → member_pairs entries group value line op (Named (named other)) ≡ true → after_group entries group (named other) (Named (named other)) ≡ true
 member_own entries group value other line GcResult all h =
-    let same : value ≡ other = eqb-true value other (both (is_pointer line.inst.ty) (value == other) h).1 in
+    let same : value ≡ other = eqb-true value other (and_parts (is_pointer line.inst.ty) (value == other) h).1 in
     subst (λ (v : ℕ). after_group entries group (named v) (Named (named other)) ≡ true) same all
 member_own entries group value other line GcRelocate all h = base_own entries group (base_index line) other h
 member_own entries group value other line op all h = absurd (false≢true h)
@@ -203,7 +203,7 @@ group_own entries group Null other h = absurd (false≢true h)
 group_own entries group (Value value) other h =
     let found = list_any_found (λ line. gives line value.0 && member_pairs entries group value.0 line line.inst.op (Named (named other))) group h in
     member_own entries group value.0 other found.0 found.0.inst.op h
-    (both (gives found.0 value.0) (member_pairs entries group value.0 found.0 found.0.inst.op (Named (named other))) found.1).1
+    (and_parts (gives found.0 value.0) (member_pairs entries group value.0 found.0 found.0.inst.op (Named (named other))) found.1).1
 group_own entries group (Int number) other h = absurd (false≢true h)
 group_own entries group (Fun func) other h = absurd (false≢true h)
 
@@ -213,7 +213,7 @@ select_plain : (op : Op) → is_select op ≡ true → (is_statepoint op ≡ fal
 select_plain Select is = (refl, refl, refl)
 select_plain op is = absurd (false≢true is)
 
-head_none : (lines : List Line) (place : ℕ) → is_statepoint (line_in lines place).inst.op ≡ false → is_member (line_in lines place).inst.op ≡ false → head_at lines place ≡ None
+pub head_none : (lines : List Line) (place : ℕ) → is_statepoint (line_in lines place).inst.op ≡ false → is_member (line_in lines place).inst.op ≡ false → head_at lines place ≡ None
 head_none lines zero = by (is_statepoint (line_in lines 0).inst.op) (is_member (line_in lines 0).inst.op)
   where
     by : (b c : Bool) → b ≡ false → c ≡ false → cond {A = Option ℕ} b (Some 0) (cond c None None) ≡ None
@@ -260,10 +260,10 @@ next_last lines place pairs line value at is pointer to own =
     = λ operand base. behind_line lines place pairs operand base plain ∙ ap (λ (l : Line). after pairs last l operand base) here in
     let first = operand_at line.inst.operands 1 in
     let second = operand_at line.inst.operands 2 in
-    let two = both (behind lines place pairs first (Named first)) (behind lines place pairs second (Named second)) own in
+    let two = and_parts (behind lines place pairs first (Named first)) (behind lines place pairs second (Named second)) own in
     same (named value) (Named (named value))
     ∙ select_own pairs last line value is pointer to
-    (joined (after pairs last line first (Named first)) (after pairs last line second (Named second))
+    (and_from (after pairs last line first (Named first)) (after pairs last line second (Named second))
     (sym (same first (Named first)) ∙ two.0) (sym (same second (Named second)) ∙ two.1))
 
 own_at : (lines : List Line) (front : Pairs) (place : ℕ) → IsSound front → Own front → OwnAt lines (pairs_at lines front place) place
@@ -285,7 +285,7 @@ entry_own : (func : Function) → Own (at_entry func)
 entry_own func Null other h = absurd (false≢true h)
 entry_own func (Value value) other h =
     let pointer = option_map_or (λ arg. is_pointer arg.ty) (slice_get func.args value.0) false in
-    let same : value.0 ≡ other = eqb-true value.0 other (both pointer (value.0 == other) h).1 in
+    let same : value.0 ≡ other = eqb-true value.0 other (and_parts pointer (value.0 == other) h).1 in
     subst (λ (v : ℕ). at_entry func (named v) (Named (named other)) ≡ true) same h
 entry_own func (Int number) other h = absurd (false≢true h)
 entry_own func (Fun func') other h = absurd (false≢true h)

@@ -7,6 +7,7 @@ use Rattle.phi_webs.specs.Webs.{Tells, Phi, IsTrivial, replaced}
 use Rattle.phi_webs.specs.Forests.{up_of, Leads, IsEnd, KeepsEnds}
 use Rattle.phi_webs.specs.Settled.{same}
 use Rattle.phi_webs.proofs.TestLemmas.{same_or_not, tells_same, tells_other, replaced_at, replaced_beside}
+use Rattle.std.proofs.lemmas.Bool.{cases_lt}
 
 pub tells_numbers : Tells same
 tells_numbers x y = Decides-eqb x y
@@ -50,11 +51,8 @@ kept_is_up {ups} leads n kept = subst (λ (m : ℕ). up_of ups m ≡ m) kept (co
 
 -- ---- one step is written
 
-pub below_or_not : (a b : ℕ) → (a < b) ⊎ (b ≤ a)
-below_or_not a b = grind arith
-
 pub goes_within : (ups : List ℕ) (n : ℕ) → up_of ups n ≢ n → n < length ups
-goes_within ups n goes = elim (below_or_not n (length ups)) [ inl below ↦ below | inr past ↦ absurd (goes (get_or_past ups n n past)) ]
+goes_within ups n goes = elim (cases_lt n (length ups)) [ inl below ↦ below | inr past ↦ absurd (goes (get_or_past ups n n past)) ]
 
 pub up_put : (ups : List ℕ) (n value : ℕ) → n < length ups → up_of (slice_set ups n value) n ≡ value
 up_put ups n value below = get_or-set_same ups n value n below
@@ -187,9 +185,6 @@ one_more web ups now last phi value leads trivial below few = record {
 pub record Climbs (ups : List ℕ) (name here steps : ℕ) : Type 0 where
   pub each : (now : ℕ → ℕ) (last : ℕ) (leads : Leads ups now last) → (now here ≡ now name) × (steps ≤ leads.time here)
 
-pub climbs_none : (ups : List ℕ) (name : ℕ) → Climbs ups name name 0
-climbs_none ups name = record { each = λ now last leads. (refl, omega arith) }
-
 pub climbs_more : (ups : List ℕ) (name here next steps : ℕ) → Climbs ups name here steps → next ≡ up_of ups here → next ≢ here
     → Climbs ups name next (steps + 1)
 climbs_more ups name here next steps climbs is goes = record {
@@ -229,10 +224,4 @@ shortens_more old new newer here end next shortens is goes put = record {
             (shortened new now last here end before.0 before.1 (λ h. goes (is ∙ h))),
         ap now is ∙ before.0.follows here ∙ before.1,
       );
-}
-
-pub shortens_ends : (old new : List ℕ) (here end : ℕ) → Shortens old new here end → KeepsEnds old new
-shortens_ends old new here end shortens = record {
-  ends = λ now last leads. (shortens.each now last leads).0;
-  len = shortens.len;
 }

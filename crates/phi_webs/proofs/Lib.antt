@@ -1,4 +1,4 @@
-pub mod Examples
+pub mod Samples
 pub mod TestLemmas
 pub mod RemovalLaws
 pub mod OnlyLemmas

@@ -13,7 +13,8 @@ use Rattle.phi_webs.specs.declared.rows.Replaced.{Replaced}
 use Rattle.phi_webs.specs.Settled.{same, phi_of, web_of, IsSettled, AnswersBecomes, HasOther, HasNoOther, CanGo, NoneCanGo, HasRoom, IsUnderWay, EndIsNoted}
 use Rattle.phi_webs.proofs.RemovalLaws.{order_is_free}
 use Rattle.phi_webs.proofs.BecomesLaws.{becomes_is_removal, becomes_is_minimal}
-use Rattle.phi_webs.proofs.ForestLemmas.{tells_numbers, number_or_not, below_or_not, kept_is_up, one_more}
+use Rattle.phi_webs.proofs.ForestLemmas.{tells_numbers, number_or_not, kept_is_up, one_more}
+use Rattle.std.proofs.lemmas.Bool.{cases_lt}
 
 -- ---- names keep what they have become
 
@@ -166,9 +167,6 @@ looks_more old new newer phi passed more o end found next looks keeps is noted p
       ]
     ]
 
-pub looks_keep : (old new : List ℕ) (phi : Phi ℕ) (passed : List ℕ) (found : Option ℕ) → Looks old new phi passed found → KeepsEnds old new
-looks_keep old new phi passed found looks = record { ends = λ now last leads. (looks.each now last leads).0; len = looks.len }
-
 -- the answers of a look
 pub none_if_gone : (ups : List ℕ) (phi : Phi ℕ) → up_of ups phi.name ≢ phi.name → HasNoOther ups phi
 none_if_gone ups phi goes now last leads web value trivial = goes (kept_is_up leads phi.name trivial.kept)
@@ -206,9 +204,6 @@ some_at_end old new phi value looks now last leads web stands =
 pub record Passes (old new : List ℕ) (passed : List (Phi ℕ)) : Type 0 where
   pub keeps : KeepsEnds old new
   pub each : (phi : Phi ℕ) → Contains passed phi → HasNoOther old phi
-
-pub passes_none : (ups : List ℕ) → Passes ups ups []
-passes_none ups = record { keeps = keeps_none ups; each = λ phi within. absurd (contains_none phi within) }
 
 pub none_before : (old new : List ℕ) (phi : Phi ℕ) → KeepsEnds old new → HasNoOther new phi → HasNoOther old phi
 none_before old new phi keeps no_other now last leads web value trivial = no_other now last (keeps.ends now last leads) web value trivial
@@ -317,7 +312,7 @@ ends_more old new newer ends more place end so_far keeps is pushed = record {
 
 pub ends_all : (old new ends : List ℕ) (place : ℕ) → EndsSoFar old new ends place → length old ≤ place
     → (now : ℕ → ℕ) (last : ℕ) → Leads old now last → (n : ℕ) → up_of ends n ≡ now n
-ends_all old new ends place so_far whole now last leads n = elim (below_or_not n place) [
+ends_all old new ends place so_far whole now last leads n = elim (cases_lt n place) [
   | inl below ↦ so_far.each now last leads n below
   | inr past ↦
       (let len : length ends ≡ place = so_far.len in
@@ -348,9 +343,6 @@ pub contains_front : {A : Type 0} (xs : List A) (i : ℕ) (x : A) → Contains (
 contains_front xs i x within =
     All-contains (Contains xs) (take i xs) x (All-take (Contains xs) i xs (All-contains_itself xs)) within
 
-pub item_more : {A : Type 0} (xs : List A) (i : ℕ) (d x : A) → i < length xs → x ≡ get_or xs i d → take (i + 1) xs ≡ take i xs ++ x ∷ []
-item_more xs i d x below is = take_more xs i d below ∙ ap (λ y. take i xs ++ y ∷ []) (sym is)
-
 pub web_more : (rows : List PhiRow) (i : ℕ) (d row : PhiRow) → i < length rows → row ≡ get_or rows i d
     → web_of (take (i + 1) rows) ≡ web_of (take i rows) ++ phi_of row ∷ []
 web_more rows i d row below is = map_more phi_of rows i d below ∙ ap (λ r. web_of (take i rows) ++ phi_of r ∷ []) (sym is)
@@ -364,7 +356,7 @@ web_contains rows i d row below is =
 pub own_more : (ups : List ℕ) (name : ℕ) → ((n : ℕ) → up_of ups n ≡ n) → length ups ≡ name → (n : ℕ) → up_of (ups ++ name ∷ []) n ≡ n
 own_more ups name own len n = elim (number_or_not n name) [
   | inl here ↦ ap (λ k. slice_index_or (ups ++ name ∷ []) k n) (here ∙ sym len) ∙ get_or-append_length ups name n ∙ sym here
-  | inr other ↦ elim (below_or_not n (length ups)) [
+  | inr other ↦ elim (cases_lt n (length ups)) [
     | inl below ↦ get_or_append_left ups (name ∷ []) n n below ∙ own n
     | inr past ↦ get_or_past (ups ++ name ∷ []) n n (let all : length (ups ++ name ∷ []) ≡ length ups + 1 = length-append ups (name ∷ []) in omega arith)
   ]

@@ -119,7 +119,7 @@ few_polled_by : (polls : Bool) (inst : Instruction) → length ((if polls then p
 few_polled_by true inst = omega arith
 few_polled_by false inst = omega arith
 
-few_polled : (number : ℕ) (insts : List Instruction) → length (flat_map (polled number) insts) ≤ 2 * length insts
+pub few_polled : (number : ℕ) (insts : List Instruction) → length (flat_map (polled number) insts) ≤ 2 * length insts
 few_polled number [] = omega arith
 few_polled number (inst ∷ insts) =
     omega (
@@ -129,7 +129,7 @@ few_polled number (inst ∷ insts) =
       length-append (polled number inst) (flat_map (polled number) insts),
     )
 
-few_behind : (number : ℕ) (blocks : List BasicBlock)
+pub few_behind : (number : ℕ) (blocks : List BasicBlock)
     → length (instructions_of (placed_from (suc number) blocks)) ≤ 2 * length (instructions_of blocks)
 few_behind number [] = omega arith
 few_behind number (block ∷ blocks) =
@@ -161,8 +161,3 @@ small_placed args blocks small few = record {
 }
 
 -- ---- all functions
-
-pub all_under : {A B : Type 0} (f : A → B) (P : B → Type 0) (xs : List A) → All P (map f xs) → All (λ x. P (f x)) xs
-all_under f P [] all = All-nil _
-all_under f P (x ∷ xs) all =
-    All-cons (λ y. P (f y)) x xs (All-head P (f x) (map f xs) all) (all_under f P xs (All-tail P (f x) (map f xs) all))

@@ -24,6 +24,7 @@ use Rattle.object_meaning.specs.Lines.{retreats}
 use Rattle.base_forms.specs.Polls.{poll_call, front_poll, polled, placed_block, placed_from}
 use Rattle.poll_place.specs.AtPoints.{HasPolls, no_more, goes_by, polls, IsReached, PollsStandAtPoints}
 use Rattle.poll_place.proofs.PlacedLemmas.{length-placed_from}
+use Rattle.ir_cfg.proofs.KeepsPaths.{succs_at}
 
 -- ---- what a poll point is
 
@@ -39,16 +40,6 @@ point_is func _ _ at_front = inl (refl, refl)
 point_is func _ _ (at_end number block found ends) = inr (record { block = block; found = found; ends = ends; last = refl })
 
 -- ---- the terminator
-
-succs_at : (func : Function) (number : ℕ) (block : BasicBlock) → slice_get func.blocks number ≡ Some block
-    → succs_of (graph_of func) number ≡ targets block
-succs_at func number block found =
-    let stands = get_map_at func.blocks number block found in
-    get_or_from_slice_get (graph_of func) number (targets block) [] stands
-  where
-    get_map_at : (blocks : List BasicBlock) (number : ℕ) (block : BasicBlock) → slice_get blocks number ≡ Some block
-        → slice_get (map targets blocks) number ≡ Some (targets block)
-    get_map_at blocks number block found = get_map targets blocks number block found
 
 -- the last instruction of a block retreats exactly where an edge of the block leads back
 last_retreats : (func : Function) (number : ℕ) (block : BasicBlock) (ends : EndsAtTerminator block.insts) → slice_get func.blocks number ≡ Some block

@@ -24,11 +24,6 @@ pub result_name-nil : (number : ℕ) → result_name [] number ≡ []
 unfolding result_name
 result_name-nil number = refl
 
--- the results of the block with this number come before those of the later blocks
-pub instructions_of-drop : (blocks : List BasicBlock) (place : ℕ) (block : BasicBlock) → place < length blocks → block ≡ get_or blocks place block → instructions_of (drop place blocks) ≡ block.insts ++ instructions_of (drop (place + 1) blocks)
-instructions_of-drop blocks place block within is =
-    rw (add-one, drop-cons blocks place block, ← is)
-
 -- the name that is looked for, where the instruction at the place gives it
 pub result_name-at_first : (items : List Instruction) (place : ℕ) (inst : Instruction) (later : List Instruction) (left : ℕ) (name : List ℕ) → place < length items → inst ≡ get_or items place inst → inst.result ≡ Some name → left ≡ 0 → result_name (drop place items ++ later) left ≡ name
 result_name-at_first items place inst later left name within is some none =

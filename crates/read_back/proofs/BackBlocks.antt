@@ -32,6 +32,8 @@ use Rattle.read_back.proofs.BackNames.{Setting}
 use Rattle.read_back.proofs.BackLines.{said, cons_parts, word-type}
 use Rattle.read_back.proofs.BackLists.{NamesAreFree}
 use Rattle.read_back.proofs.BackInsts.{IsPrintedIn, inst-back}
+use Rattle.std.proofs.lemmas.Grind.{flat_map-append}
+use Rattle.module_laws.proofs.LawFunctions.{unmapped}
 
 -- ---- lines cut where what they say is
 
@@ -58,10 +60,6 @@ cut (l ∷ ls) (x ∷ xs) ys e =
 pub nothing_said : (ls : List Line) → said ls ≡ [] → ls ≡ []
 nothing_said [] e = refl
 nothing_said (l ∷ ls) e = absurd (let bad : l.says ∷ said ls ≡ [] = e in cc)
-
-pub all_mapped : {X Y : Type 0} (f : X → Y) (P : Y → Type 0) (xs : List X) → AllByRecursion P (map f xs) → AllByRecursion (λ x. P (f x)) xs
-all_mapped f P [] h = tt
-all_mapped f P (x ∷ xs) h = (h.0, all_mapped f P xs h.1)
 
 pub weaker : {X : Type 0} (P Q : X → Type 0) → ((x : X) → P x → Q x) → (xs : List X) → AllByRecursion P xs → AllByRecursion Q xs
 weaker P Q each [] h = tt
@@ -115,7 +113,7 @@ insts_inner names insts = all_flat (instruction_says names) InBlock (λ inst. in
 
 -- lines say what holds of all that is said
 pub lines_all : (P : Statement → Type 0) (ls : List Line) (ss : List Statement) → said ls ≡ ss → AllByRecursion P ss → AllByRecursion (λ l. P l.says) ls
-lines_all P ls ss e h = all_mapped (λ (l : Line). l.says) P ls (subst (AllByRecursion P) (sym e) h)
+lines_all P ls ss e h = unmapped (λ (l : Line). l.says) P ls (subst (AllByRecursion P) (sym e) h)
 
 no_label : (s : Statement) → in_block s ≡ true → (is_label s ≡ false) × (label_said s ≡ None)
 no_label (label name) e = absurd (let bad : false ≡ true = e in cc)
@@ -231,10 +229,6 @@ first_of_pair (Some pair) = pair.0 ∷ []
 abbrev names_given : List Statement → List (List ℕ)
 names_given ss = flat_map (λ s. first_of_pair (gives s)) ss
 
-pub flat-append : {X Y : Type 0} (f : X → List Y) (xs ys : List X) → flat_map f (xs ++ ys) ≡ flat_map f xs ++ flat_map f ys
-flat-append f [] ys = refl
-flat-append f (x ∷ xs) ys = ap (λ zs. f x ++ zs) (flat-append f xs ys) ∙ sym (append_assoc (f x) (flat_map f xs) (flat_map f ys))
-
 one_given_name : (n : ℕ) (o : Option (List ℕ × TypeWord)) → map (λ (one : Naming). one.name) (result_named n o) ≡ first_of_pair o
 one_given_name n None = refl
 one_given_name n (Some (name, ty)) = refl
@@ -316,7 +310,7 @@ insts_names : (form : TextForm) (names : Names) (insts : List Instruction) → A
     → names_given (flat_map (instruction_says names) insts) ≡ names_of insts
 insts_names form names [] p = refl
 insts_names form names (i ∷ is) p =
-    flat-append (λ (s : Statement). first_of_pair (gives s)) (instruction_says names i) (flat_map (instruction_says names) is)
+    flat_map-append (λ (s : Statement). first_of_pair (gives s)) (instruction_says names i) (flat_map (instruction_says names) is)
     ∙ ap (λ (ns : List (List ℕ)). ns ++ names_given (flat_map (instruction_says names) is)) (inst_names names i.op i p.0)
     ∙ ap (λ (ns : List (List ℕ)). one_name i.result ++ ns) (insts_names form names is p.1)
 
@@ -324,10 +318,10 @@ blocks_names : (form : TextForm) (names : Names) (blocks : List BasicBlock) → 
     → names_given (flat_map (block_says names) blocks) ≡ names_of (instructions_of blocks)
 blocks_names form names [] p = refl
 blocks_names form names (b ∷ bs) p =
-    flat-append (λ (s : Statement). first_of_pair (gives s)) (flat_map (instruction_says names) b.insts) (flat_map (block_says names) bs)
+    flat_map-append (λ (s : Statement). first_of_pair (gives s)) (flat_map (instruction_says names) b.insts) (flat_map (block_says names) bs)
     ∙ ap (λ (ns : List (List ℕ)). ns ++ names_given (flat_map (block_says names) bs)) (insts_names form names b.insts p.0)
     ∙ ap (λ (ns : List (List ℕ)). names_of b.insts ++ ns) (blocks_names form names bs p.1)
-    ∙ sym (flat-append (λ (inst : Instruction). one_name inst.result) b.insts (instructions_of bs))
+    ∙ sym (flat_map-append (λ (inst : Instruction). one_name inst.result) b.insts (instructions_of bs))
 
 outcome_names : (insts : List Instruction) → names_of insts ≡ map definition_name (map outcome (filter (λ inst. is_some inst.result) insts))
 outcome_names [] = refl

@@ -8,7 +8,7 @@ use Rattle.std.specs.List.{AllByRecursion, AllZip, Contains, zip}
 use Rattle.std.proofs.lemmas.List.{length-map}
 use Rattle.std.proofs.lemmas.Option.{same_Some, slice_get_within}
 use Rattle.std.proofs.lemmas.List.Elements.{recursion_from_All, All-contains}
-use Rattle.std.proofs.lemmas.Bool.{lt-ltb}
+use Rattle.std.proofs.lemmas.Bool.{lt-ltb, and_from, or_right}
 use Rattle.std.proofs.lemmas.Bool.Decides.{Decides-eqb}
 use Rattle.std.proofs.lemmas.Slice.Eq.{bytes_eq-Decides}
 use Rattle.sp_ids.specs.declared.ids.FuncId.{FuncId}
@@ -54,7 +54,6 @@ use Rattle.ir_lines.specs.Faults.TypeClash.{is_task, starts_task, gives_kind, ch
 use Rattle.ir_lines.specs.TextForms.{is_source}
 use Rattle.list_laws.proofs.Places.{get_taken}
 use Rattle.ir_lines.proofs.LawNames.{stands, contains_get, same_by_name}
-use Rattle.module_laws.proofs.LawFacts.{not-true}
 use Rattle.module_laws.proofs.LawHeads.{HeadFrom, from_definition, from_declaration, heads-from}
 use Rattle.read_back.specs.Said.{word_of, literal_of, argument_says, passed_says, parameter_says, made_says, statepoint_says, step_says, return_says, case_says, operator_says, said_by}
 use Rattle.read_back.proofs.Cells.{cell_reads}
@@ -68,6 +67,9 @@ use Rattle.read_back.proofs.BackFaults.{Each, IfDeclares, each_declaration, line
 use Rattle.read_back.proofs.BackTops.{definitions_free}
 use Rattle.read_back.proofs.BackHeads.{declares_external}
 use Rattle.read_back.proofs.BackUnknown.{HeadFound, Knows, some_block, knows, callee_found, is_called}
+use Rattle.ir_resolve.proofs.Booleans.{not-true}
+use Rattle.text_resolve.proofs.ExternalLemmas.{same_types-self, same_type-self}
+use Rattle.list_laws.proofs.Booleans.{and_three}
 
 -- what the head says that a name has
 record HeadSays (scope : Scope) (name : List ℕ) (defined : Bool) (answer : TypeWord) (parameters : List TypeWord) : Type 0 where
@@ -197,29 +199,13 @@ task_passed scope names values func (o ∷ p ∷ []) fit at =
 
 -- ---- calls
 
-both : (a b : Bool) → a ≡ true → b ≡ true → (a && b) ≡ true
-both a b p q = ap (λ (x : Bool). x && b) p ∙ q
-
-both_and : (a b c : Bool) → a ≡ true → b ≡ true → c ≡ true → (a && (b && c)) ≡ true
-both_and a b c p q r = both a (b && c) p (both b c q r)
-
-same_type-refl : (a : TypeWord) → same_type a a ≡ true
-same_type-refl types.Void = refl
-same_type-refl (types.Int width) = (Decides-eqb width width).1 refl
-same_type-refl types.Managed = refl
-same_type-refl types.Plain = refl
-
-same_types-refl : (words : List TypeWord) → same_types words words ≡ true
-same_types-refl [] = refl
-same_types-refl (w ∷ ws) = both (same_type w w) (same_types ws ws) (same_type-refl w) (same_types-refl ws)
-
 agree : (scope : Scope) (name : List ℕ) (defined : Bool) (answer : TypeWord) (passed : List Given) → HeadSays scope name defined answer (map passed_type passed)
     → agrees answer passed (head_named scope name) ≡ true
 agree scope name defined answer passed s =
     ap (agrees answer passed) s.found
-    ∙ both (same_type answer s.head.answer) (same_types (map passed_type passed) s.head.parameters)
-    (ap (same_type answer) s.answers ∙ same_type-refl answer)
-    (ap (same_types (map passed_type passed)) s.takes ∙ same_types-refl (map passed_type passed))
+    ∙ and_from (same_type answer s.head.answer) (same_types (map passed_type passed) s.head.parameters)
+    (ap (same_type answer) s.answers ∙ same_type-self answer)
+    (ap (same_types (map passed_type passed)) s.takes ∙ same_types-self (map passed_type passed))
 
 other_name : (name due : List ℕ) → name ≢ due → bytes_eq name due ≡ false
 other_name name due other = not-true (bytes_eq name due) (λ is. other ((bytes_eq-Decides name due).0 is))
@@ -227,10 +213,6 @@ other_name name due other = not-true (bytes_eq name due) (λ is. other ((bytes_e
 -- what is asked of the calls of one name only
 not_asked : (due name : List ℕ) (b : Bool) → bytes_eq name due ≡ false → (not (bytes_eq name due) || b) ≡ true
 not_asked due name b other = ap (λ (c : Bool). not c || b) other
-
-either : (a b : Bool) → b ≡ true → (a || b) ≡ true
-either true b e = refl
-either false b e = e
 
 -- only the rewritten form asks something of checks
 asked_of : (a b c : Bool) → (b || c) ≡ true → (a || b || c) ≡ true
@@ -256,7 +238,7 @@ parameter_words (t ∷ ts) first =
 
 taken : (scope : Scope) (name : List ℕ) (defined : Bool) (answer : TypeWord) (words : List TypeWord) → HeadSays scope name defined answer words
     → takes_types words (head_named scope name) ≡ true
-taken scope name defined answer words s = ap (takes_types words) s.found ∙ ap (same_types words) s.takes ∙ same_types-refl words
+taken scope name defined answer words s = ap (takes_types words) s.found ∙ ap (same_types words) s.takes ∙ same_types-self words
 
 plain_call : (form : Form) (scope : Scope) (names : Names) (values : List Ty) (name : List ℕ) (os : List Operand) (sig : Signature) (defined : Bool)
     → HeadSays scope name defined (word_of sig.answer) (map word_of sig.params) → AllZip (Fits values) os sig.params → AllByRecursion IsFirst sig.params
@@ -266,7 +248,7 @@ plain_call form scope names values name os sig defined s fit first few other che
     let passed = passed_of names sig.params os in
     let same = parameter_words sig.params first in
     record {
-      agrees = both_and (agrees (word_of sig.answer) passed (head_named scope name)) (not (bytes_eq name (codes "task_start")) || starts_task scope passed)
+      agrees = and_three (agrees (word_of sig.answer) passed (head_named scope name)) (not (bytes_eq name (codes "task_start")) || starts_task scope passed)
           (is_source form || not (bytes_eq name (codes "gc_check")) || checks_kind passed)
           (agree scope name defined (word_of sig.answer) passed
           (subst (HeadSays scope name defined (word_of sig.answer)) (sym (passed_types names values os sig.params fit first)) s))
@@ -288,8 +270,8 @@ kind_checked names values cell (o ∷ p ∷ q ∷ os) fit is =
 task_is : (scope : Scope) (name : List ℕ) → HeadSays scope name true types.Void (types.Managed ∷ []) → is_task (head_named scope name) ≡ true
 task_is scope name s =
     ap is_task s.found
-    ∙ both (s.head.defined && same_type s.head.answer types.Void) (same_types s.head.parameters (types.Managed ∷ []))
-    (both s.head.defined (same_type s.head.answer types.Void) s.is_defined (ap (λ (t : TypeWord). same_type t types.Void) s.answers))
+    ∙ and_from (s.head.defined && same_type s.head.answer types.Void) (same_types s.head.parameters (types.Managed ∷ []))
+    (and_from s.head.defined (same_type s.head.answer types.Void) s.is_defined (ap (λ (t : TypeWord). same_type t types.Void) s.answers))
     (ap (λ (ts : List TypeWord). same_types ts (types.Managed ∷ [])) s.takes)
 
 task_call : (form : Form) (scope : Scope) (names : Names) (values : List Ty) (os : List Operand) (func : FuncId)
@@ -301,10 +283,10 @@ task_call form scope names values os func s task fit at =
     let t = task_passed scope names values func os fit at in
     let passed = passed_of names (tys.Void ∷ tys.Ptr ∷ []) os in
     record {
-      agrees = both_and (agrees types.Void passed (head_named scope (codes "task_start"))) (not (bytes_eq (codes "task_start") (codes "task_start")) || starts_task scope passed)
+      agrees = and_three (agrees types.Void passed (head_named scope (codes "task_start"))) (not (bytes_eq (codes "task_start") (codes "task_start")) || starts_task scope passed)
           (is_source form || not (bytes_eq (codes "task_start") (codes "gc_check")) || checks_kind passed)
           (agree scope (codes "task_start") false types.Void passed (subst (HeadSays scope (codes "task_start") false types.Void) (sym t.words) s))
-          (either (not (bytes_eq (codes "task_start") (codes "task_start"))) (starts_task scope passed)
+          (or_right (not (bytes_eq (codes "task_start") (codes "task_start"))) (starts_task scope passed)
           (t.starts ∙ task_is scope (function_name names.funcs func.0) task))
           (asked_of (is_source form) (not (bytes_eq (codes "task_start") (codes "gc_check"))) (checks_kind passed) refl);
       takes = taken scope (codes "task_start") false types.Void (types.Plain ∷ types.Managed ∷ []) s;
@@ -426,7 +408,7 @@ guarded_fits : (form : Form) (scope : Scope) (names : Names) (id : ℕ) (callee 
     → GuardedFits form scope names id callee ts inst
 guarded_fits form scope names id callee ts inst fits =
     let few = fits.few in
-    both_and (call_agrees form scope (word_of inst.ty) (callee_name names callee) (passed_of names ts inst.operands))
+    and_three (call_agrees form scope (word_of inst.ty) (callee_name names callee) (passed_of names ts inst.operands))
     (takes_types (map parameter_says ts) (head_named scope (callee_name names callee))) (literal_fits (types.Int 32) (literal_of (pos (length ts))))
     (subst (λ (z : List (Ty × Operand)). call_agrees form scope (word_of inst.ty) (callee_name names callee)
     (map (λ (argument : Ty × Operand). passed_says names argument.0 argument.1) z) ≡ true) (zip_take ts inst.operands) fits.agrees)
@@ -472,7 +454,7 @@ inst_right : (form : Form) (scope : Scope) (names : Names) (op : Op) (inst : Ins
     → AllByRecursion (SaysRight form scope) (operator_says names op inst)
 inst_right form scope names (ops.Call callee ts) inst calls guarded = ((ap not (calls callee ts refl).agrees, refl), tt)
 inst_right form scope names (ops.Statepoint id callee ts) inst calls guarded = (guarded id callee ts refl, tt)
-inst_right form scope names ops.Select inst calls guarded = ((ap not (same_type-refl (word_of inst.ty)), refl), tt)
+inst_right form scope names ops.Select inst calls guarded = ((ap not (same_type-self (word_of inst.ty)), refl), tt)
 inst_right form scope names (ops.Gep elem width place) inst calls guarded = (step_right form scope names elem width place inst, tt)
 inst_right form scope names ops.Switch inst calls guarded = ((refl, refl), cases_right form scope names inst.ty (zip (drop 1 inst.operands) (drop 1 inst.labels)))
 inst_right form scope names ops.Ret inst calls guarded = (return_right form scope names inst.ty inst, tt)
@@ -504,7 +486,7 @@ one_statepoint form content shaped lines e one func k c inst d op has p rule id 
     let g = guards names id callee ts inst q in
     let found = callee_found (scope_of lines one) names k callee g.below
     (λ x called. is_called content.funcs func inst x c d
-    (subst (λ (o : Op). is_call_of x o inst.ty ≡ true) (sym is ∙ has) (either (is_statepoints x) (is_callee x callee) called))) in
+    (subst (λ (o : Op). is_call_of x o inst.ty ≡ true) (sym is ∙ has) (or_right (is_statepoints x) (is_callee x callee) called))) in
     let agrees = guarded_fits form (scope_of lines one) names id callee ts inst
     (call_keeps form content shaped lines e one func k callee g.below found ts inst.ty (take (length ts) inst.operands) g.fits call_rule.signature
     (takes_front content func callee ts inst.ty inst.operands call_rule.signature call_rule.operands)) in

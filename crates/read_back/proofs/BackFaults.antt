@@ -43,6 +43,7 @@ use Rattle.read_back.proofs.BackBlocks.{weaker, all_append, lines_all, InBlock, 
 use Rattle.read_back.proofs.BackSections.{SaysDefinition, definitions-are, layout-names, InBody as IsOfBody, in_body, blocks_inner, each_declared}
 use Rattle.read_back.proofs.BackModules.{IsShaped, names_in}
 use Rattle.read_back.proofs.NotCalled.{is_of_source}
+use Rattle.list_laws.proofs.Tests.{contained_any}
 
 -- ---- lines of the whole text
 
@@ -243,16 +244,13 @@ pointer_cast-clear content lines e line f =
 
 -- ---- declarations
 
-pub any_true : {X : Type 0} (p : X → Bool) (xs : List X) (x : X) → Contains xs x → p x ≡ true → list_any p xs ≡ true
-any_true p xs x c e = list_any_at p xs c.0 x c.1 (ap p c.2 ∙ e)
-
 -- the name of a helper, or one of LLVM's own
 abbrev is_reserved : List ℕ → Bool
 is_reserved name = list_any (bytes_eq name) helpers || bytes_eq (take 5 name) (codes "llvm.")
 
 not_reserved : (name : List ℕ) → is_reserved name ≡ false → ¬ (Contains helpers name ⊎ HasFront (codes "llvm.") name)
 not_reserved name e (inl c) =
-    let helper : list_any (bytes_eq name) helpers ≡ true = any_true (bytes_eq name) helpers name c ((bytes_eq-Decides name name).1 refl) in
+    let helper : list_any (bytes_eq name) helpers ≡ true = contained_any (bytes_eq name) helpers name c ((bytes_eq-Decides name name).1 refl) in
     let bad : true ≡ false = sym (ap (λ (b : Bool). b || bytes_eq (take 5 name) (codes "llvm.")) helper) ∙ e in cc
 not_reserved name e (inr f) =
     let front : bytes_eq (take 5 name) (codes "llvm.") ≡ true = ap (λ (n : List ℕ). bytes_eq (take 5 n) (codes "llvm.")) f.1 in

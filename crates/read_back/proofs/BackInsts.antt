@@ -33,7 +33,6 @@ use Rattle.line_tokens.specs.declared.words.Conversion.TheVariants as conversion
 use Rattle.ir_lines.specs.Statements.{Line, switch, switch_end, unreachable}
 use Rattle.ir_lines.specs.Modules.{Known, operand_of, label_of, instruction_said, insts_of, binary_of, conversion_of, case_values, case_labels}
 use Rattle.module_laws.proofs.LawBodies.{insts_said, insts-cons}
-use Rattle.module_laws.proofs.LawFacts.{and-left, and-right}
 use Rattle.module_laws.proofs.LawCalls.{argument-value}
 use Rattle.ir_printer.specs.Operands.{operand_at, label_at}
 use Rattle.read_back.specs.Said.{width_in, value_at, target_at, operator_says, binary_says, compare_says, convert_says, select_says, phi_says, step_says, load_says, store_says, call_says, statepoint_says, gc_result_says, gc_relocate_says, jump_says, branch_says, case_says, switch_says, return_says}
@@ -44,6 +43,7 @@ use Rattle.read_back.proofs.BackLists.{Below, each_given, phi-back, Passes, Name
 use Rattle.read_back.proofs.BackGroups.{statepoint-back, result-back, relocate-back}
 use Rattle.read_back.proofs.Fronts.{FunctionsOf, front_fit, front_functions}
 use Rattle.std.proofs.lemmas.List.{nil_from_length}
+use Rattle.list_laws.proofs.Booleans.{first_true, second_true}
 
 -- what is known of an instruction that a module of this form has
 pub record IsPrintedIn (of : TextForm) (names : Names) (op : Op) (inst : Instruction) : Type 0 where
@@ -78,8 +78,8 @@ good_zip names [] [] fit value widths = tt
 good_zip names [] (t ∷ ts) fit value widths = absurd fit
 good_zip names (o ∷ os) [] fit value widths = absurd fit
 good_zip names (o ∷ os) (t ∷ ts) fit value widths = (
-  record { fits = fit.0; value = and-left (is_value o) (list_all is_value os) value; widths = widths.0 },
-  good_zip names os ts fit.1 (and-right (is_value o) (list_all is_value os) value) widths.1,
+  record { fits = fit.0; value = first_true (is_value o) (list_all is_value os) value; widths = widths.0 },
+  good_zip names os ts fit.1 (second_true (is_value o) (list_all is_value os) value) widths.1,
 )
 
 repeated : (n : ℕ) (ty : Ty) → WidthsOf ty → AllByRecursion WidthsOf (replicate n ty)
@@ -280,7 +280,7 @@ step_case names known s elem width place inst p rest =
         → (n : ℕ) → place ≡ Some n → n < 2 ^ 32
     small (elements.Layout l) place e h n is = h l width n (ap (ops.Gep (elements.Layout l) width) is)
     small elements.Ptr place e h n is = absurd (let bad : false ≡ true = ap is_none (sym is) ∙ e in cc)
-    small (elements.Int w) place e h n is = absurd (let bad : false ≡ true = ap is_none (sym is) ∙ and-right (w == 8 || w == 16 || w == 32 || w == 64) (is_none place) e in cc)
+    small (elements.Int w) place e h n is = absurd (let bad : false ≡ true = ap is_none (sym is) ∙ second_true (w == 8 || w == 16 || w == 32 || w == 64) (is_none place) e in cc)
 
     index : (elem : Elem) → AllByRecursion IsWidth (operator_widths (ops.Gep elem width place)) → WidthsOf (tys.Int width)
     index (elements.Int w) h = All-from_recursion IsWidth (width ∷ []) h.1

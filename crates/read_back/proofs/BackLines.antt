@@ -25,10 +25,10 @@ use Rattle.line_tokens.specs.declared.words.Conversion.{Conversion}
 use Rattle.ir_lines.specs.Statements.{Line, Statement}
 use Rattle.ir_lines.specs.Modules.{Known, type_of, operand_of, instruction_said, insts_of, place_of, label_of, binary_of, conversion_of, instruction}
 use Rattle.module_laws.proofs.LawBodies.{insts_said, insts-cons}
-use Rattle.module_laws.proofs.LawFacts.{and-right}
 use Rattle.read_back.specs.Said.{word_of, width_in, result_of, value_at, binary_says, compare_says, convert_says, select_says, load_says, store_says, jump_says, branch_says, return_says, step_says, place_says, target_at}
 use Rattle.read_back.proofs.BackNames.{Setting, Good, operand-back, label-back, layout-number}
 use Rattle.ir_ast.specs.declared.ops.Pred.{Pred}
+use Rattle.list_laws.proofs.Booleans.{second_true}
 
 abbrev pub said : List Line → List Statement
 said lines = map (λ l. l.says) lines
@@ -278,7 +278,7 @@ step-back names known s elem width place rest inst o has element below small goo
         → instruction_said known rest (step_says names elem width place inst) ≡ Some inst
     by (elements.Int w) place o e below small =
         made (ops.Gep (elements.Int w) width None)
-        (ap (λ (p : Option ℕ). ops.Gep (elements.Int w) width p) (no_place place (and-right (w == 8 || w == 16 || w == 32 || w == 64) (is_none place) e)) ∙ o)
+        (ap (λ (p : Option ℕ). ops.Gep (elements.Int w) width p) (no_place place (second_true (w == 8 || w == 16 || w == 32 || w == 64) (is_none place) e)) ∙ o)
     by elements.Ptr None o e below small = made (ops.Gep elements.Ptr width None) o
     by elements.Ptr (Some n) o e below small = absurd (let bad : false ≡ true = e in cc)
     by (elements.Layout layout) place o e below small =

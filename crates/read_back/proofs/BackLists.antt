@@ -27,10 +27,10 @@ use Rattle.ir_lines.specs.Sections.{cases_of}
 use Rattle.ir_lines.specs.Places.{place_in, number_of}
 use Rattle.ir_lines.specs.Modules.{Known, type_of, operand_in, instruction_said, insts_of, entry_operand, entry_label, passed_operand, given_type, callee_of, callee_at, case_value, case_label}
 use Rattle.module_laws.proofs.LawBodies.{insts-cons}
-use Rattle.module_laws.proofs.LawFacts.{and-left, and-right}
 use Rattle.read_back.specs.Said.{word_of, width_in, result_of, value_says, entry_says, phi_says, passed_says, call_says, case_says}
 use Rattle.read_back.proofs.BackNames.{Setting, Good, operand-back, label-back, layout-number, function-placed, function-number, unplaced-by}
 use Rattle.read_back.proofs.BackLines.{said, cons_parts, same-inst, result-is, integer-word, word-type}
+use Rattle.list_laws.proofs.Booleans.{first_true, second_true}
 
 -- ---- phis
 
@@ -103,8 +103,8 @@ argument-back names known s ty operand p = by p.argument
     by : (is_value operand && is_first_class ty) ≡ true ⊎ ((func : FuncId) × (operand ≡ operands.Fun func))
         → (passed_operand known (passed_says names ty operand) ≡ operand) × (given_type (passed_says names ty operand) ≡ ty)
     by (inl e) =
-        let value = and-left (is_value operand) (is_first_class ty) e in
-        value_passed names known s ty operand value (record { fits = p.fits; value = value; widths = p.widths }) (and-right (is_value operand) (is_first_class ty) e)
+        let value = first_true (is_value operand) (is_first_class ty) e in
+        value_passed names known s ty operand value (record { fits = p.fits; value = value; widths = p.widths }) (second_true (is_value operand) (is_first_class ty) e)
     by (inr f) =
         let void : ty ≡ tys.Void = subst (λ (o : Operand). Fits (value_types names.func) o ty) f.1 p.fits in
         subst (λ (o : Operand). (passed_operand known (passed_says names ty o) ≡ o) × (given_type (passed_says names ty o) ≡ ty)) (sym f.1)

@@ -23,9 +23,10 @@ use Rattle.read_back.specs.Said.{function_says, layout_says, block_says, declara
 use Rattle.read_back.proofs.BackModules.{IsShaped}
 use Rattle.read_back.proofs.BackLines.{said}
 use Rattle.read_back.proofs.BackNames.{placed-back}
-use Rattle.read_back.proofs.BackBlocks.{all_append, flat-append}
+use Rattle.read_back.proofs.BackBlocks.{all_append}
 use Rattle.read_back.proofs.BackSections.{InBody, blocks_inner}
 use Rattle.read_back.proofs.BackTops.{no_repeat}
+use Rattle.std.proofs.lemmas.Grind.{flat_map-append}
 
 abbrev pub head_names : Statement → List (List ℕ)
 head_names (declare answer name parameters) = name ∷ []
@@ -60,9 +61,9 @@ functions_named layouts funcs [] = refl
 functions_named layouts funcs (f ∷ fs) =
     let names : Names = record { layouts = layouts; funcs = funcs; func = f } in
     let body = flat_map (block_says names) f.blocks in
-    flat-append head_names (function_says layouts funcs f) (flat_map (function_says layouts funcs) fs)
+    flat_map-append head_names (function_says layouts funcs f) (flat_map (function_says layouts funcs) fs)
     ∙ ap (λ (ns : List (List ℕ)). (f.name ∷ ns) ++ flat_map head_names (flat_map (function_says layouts funcs) fs))
-    (flat-append head_names body (close ∷ []) ∙ ap (λ (ns : List (List ℕ)). ns ++ []) (body_names body (blocks_inner names f.blocks)))
+    (flat_map-append head_names body (close ∷ []) ∙ ap (λ (ns : List (List ℕ)). ns ++ []) (body_names body (blocks_inner names f.blocks)))
     ∙ ap (λ (ns : List (List ℕ)). f.name ∷ ns) (functions_named layouts funcs fs)
 
 layouts_unnamed : (layouts : List ObjectLayout) → flat_map head_names (map layout_says layouts) ≡ []
@@ -223,7 +224,7 @@ free_names (f ∷ fs) h = (h.0, free_names fs h.1)
 
 flat-flat : {X Y Z : Type 0} (g : Y → List Z) (f : X → List Y) (xs : List X) → flat_map g (flat_map f xs) ≡ flat_map (λ x. flat_map g (f x)) xs
 flat-flat g f [] = refl
-flat-flat g f (x ∷ xs) = flat-append g (f x) (flat_map f xs) ∙ ap (λ zs. flat_map g (f x) ++ zs) (flat-flat g f xs)
+flat-flat g f (x ∷ xs) = flat_map-append g (f x) (flat_map f xs) ∙ ap (λ zs. flat_map g (f x) ++ zs) (flat-flat g f xs)
 
 pub names_are : (content : ModuleContent) (lines : List Line) → said lines ≡ said_by content
     → map (λ (h : Head). h.name) (heads_of lines) ≡ all_names content.layouts content.funcs (externals content.layouts) ++ map (λ f. f.name) content.funcs
@@ -231,9 +232,9 @@ unfolding said_by
 names_are content lines e =
     let declared = flat_map (declaration_if_called content.layouts content.funcs) (externals content.layouts) in
     let defined = flat_map (function_says content.layouts content.funcs) content.funcs in
-    heads_named lines ∙ ap (flat_map head_names) e ∙ flat-append head_names (map layout_says content.layouts) (declared ++ defined)
+    heads_named lines ∙ ap (flat_map head_names) e ∙ flat_map-append head_names (map layout_says content.layouts) (declared ++ defined)
     ∙ ap (λ (ns : List (List ℕ)). ns ++ flat_map head_names (declared ++ defined)) (layouts_unnamed content.layouts)
-    ∙ flat-append head_names declared defined
+    ∙ flat_map-append head_names declared defined
     ∙ ap (λ (ns : List (List ℕ)). ns ++ flat_map head_names defined) (flat-flat head_names (declaration_if_called content.layouts content.funcs) (externals content.layouts))
     ∙ ap (λ (ns : List (List ℕ)). all_names content.layouts content.funcs (externals content.layouts) ++ ns) (functions_named content.layouts content.funcs content.funcs)
 

@@ -21,7 +21,8 @@ use Rattle.ir_lines.specs.Modules.{cell_of, layout_of}
 use Rattle.read_back.specs.Said.{word_of, argument_says, instruction_says, block_says, function_says, layout_says, declaration_says, declaration_if_called, said_by}
 use Rattle.read_back.proofs.Cells.{cells-back}
 use Rattle.read_back.proofs.BackLines.{said, cons_parts}
-use Rattle.read_back.proofs.BackBlocks.{cut, nothing_said, weaker, all_append, all_flat, InBlock, insts_inner, lines_all, flat-append}
+use Rattle.read_back.proofs.BackBlocks.{cut, nothing_said, weaker, all_append, all_flat, InBlock, insts_inner, lines_all}
+use Rattle.std.proofs.lemmas.Grind.{flat_map-append}
 
 -- ---- bodies
 
@@ -242,7 +243,7 @@ unfolding said_by
 layouts-back content lines e =
     let declared = flat_map (declaration_if_called content.layouts content.funcs) (externals content.layouts) in
     let defined = flat_map (function_says content.layouts content.funcs) content.funcs in
-    layouts_seen lines ∙ ap (flat_map layout_seen) e ∙ flat-append layout_seen (map layout_says content.layouts) (declared ++ defined)
+    layouts_seen lines ∙ ap (flat_map layout_seen) e ∙ flat_map-append layout_seen (map layout_says content.layouts) (declared ++ defined)
     ∙ ap (λ (xs : List ObjectLayout). xs ++ flat_map layout_seen (declared ++ defined)) (said_layouts content.layouts)
     ∙ ap (λ (xs : List ObjectLayout). content.layouts ++ xs)
     (none_seen (declared ++ defined) (all_append NoLayout declared defined

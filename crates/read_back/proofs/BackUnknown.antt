@@ -57,9 +57,11 @@ use Rattle.read_back.proofs.BackInsts.{IsPrintedIn, passing, guards}
 use Rattle.read_back.proofs.Fronts.{zip_take}
 use Rattle.read_back.proofs.BackSections.{SaysDefinition, layout-names}
 use Rattle.read_back.proofs.BackModules.{IsShaped, names_in, shaped_inst}
-use Rattle.read_back.proofs.BackFaults.{From, any_true, no_body_fault}
+use Rattle.read_back.proofs.BackFaults.{From, no_body_fault}
 use Rattle.read_back.proofs.BackTops.{names_of_values, names_of_blocks}
 use Rattle.read_back.proofs.BackOnce.{head_names, declared_names, names_if, all_names, names_are}
+use Rattle.std.proofs.lemmas.Bool.{or_right}
+use Rattle.list_laws.proofs.Tests.{contained_any}
 
 -- ---- what is found
 
@@ -222,10 +224,6 @@ passed_heads scope names k (operands.Int n ∷ os) (t ∷ ts) p = passed_heads s
 passed_heads scope names k (operands.Null ∷ os) (t ∷ ts) p = passed_heads scope names k os ts p.1
 passed_heads scope names k (operands.Fun f ∷ os) (t ∷ ts) p = (k.function f.0 (p.0.function f refl), passed_heads scope names k os ts p.1)
 
-or_later : (a b : Bool) → b ≡ true → (a || b) ≡ true
-or_later true b e = refl
-or_later false b e = e
-
 -- ---- any instruction
 
 inst_others : {of : Form} (scope : Scope) (names : Names) → Knows scope names → (op : Op) (inst : Instruction) → IsPrintedIn of names op inst
@@ -241,7 +239,7 @@ inst_others scope names k (ops.Statepoint id callee ts) inst p called =
       (
         tt,
         (
-          callee_found scope names k callee g.below (λ e is. called e (or_later (is_statepoints e) (is_callee e callee) is)),
+          callee_found scope names k callee g.below (λ e is. called e (or_right (is_statepoints e) (is_callee e callee) is)),
           subst (λ (z : List (Ty × Operand)). AllByRecursion (HeadFound scope) (filter_map passed_function (said z))) (zip_take ts inst.operands)
               (passed_heads scope names k (take (length ts) inst.operands) ts g.passes),
         ),
@@ -328,9 +326,9 @@ pub is_called : (funcs : List Function) (func : Function) (inst : Instruction) (
 unfolding calls
 is_called funcs func inst e c d is =
     let b = contains_joined (λ (block : BasicBlock). block.insts) func.blocks inst d in
-    any_true (λ (f : Function). list_any (λ (block : BasicBlock). list_any (λ (i : Instruction). is_call_of e i.op i.ty) block.insts) f.blocks) funcs func c
-    (any_true (λ (block : BasicBlock). list_any (λ (i : Instruction). is_call_of e i.op i.ty) block.insts) func.blocks b.of b.inside
-    (any_true (λ (i : Instruction). is_call_of e i.op i.ty) b.of.insts inst b.given is))
+    contained_any (λ (f : Function). list_any (λ (block : BasicBlock). list_any (λ (i : Instruction). is_call_of e i.op i.ty) block.insts) f.blocks) funcs func c
+    (contained_any (λ (block : BasicBlock). list_any (λ (i : Instruction). is_call_of e i.op i.ty) block.insts) func.blocks b.of b.inside
+    (contained_any (λ (i : Instruction). is_call_of e i.op i.ty) b.of.insts inst b.given is))
 
 -- ---- code 4
 

@@ -38,6 +38,7 @@ use Rattle.read_back.proofs.Listed.{SpellsElement}
 use Rattle.read_back.proofs.ListForms.{EndsAtMark, Anything, passed_element, passed_opens, function_element, function_opens, value_call_line, void_call_line, entry_element, phi_line}
 use Rattle.read_back.proofs.Operands.{HaveNames, IsNarrow, block-named, function-named, function-own, layout-named, type_spelled, type_allowed, value_spelled}
 use Rattle.read_back.proofs.OneLine.{OneLine, made}
+use Rattle.sp_text.proofs.Spelled.{name_bytes}
 
 -- ---- callees
 
@@ -47,14 +48,8 @@ digits_named (b ∷ bs) digits =
     let both = and_parts (is_ascii_digit b) (list_all is_ascii_digit bs) digits in
     and_from (in_name b) (list_all in_name bs) (or_right (begins_name b) (is_ascii_digit b) both.0) (digits_named bs both.1)
 
-named_bytes : (n : List ℕ) → is_name n ≡ true → list_all in_name n ≡ true
-named_bytes n is = elim (or_cases (is_plain_name n) (is_numeral n) is) [
-  | inl plain ↦ plain_bytes n plain
-  | inr numeral ↦ digits_named n (numeral_digits n numeral)
-]
-
 pub new-named : (n : List ℕ) → is_name n ≡ true → is_name (codes "gc_new." ++ n) ≡ true
-new-named n is = rw (named_bytes n is) refl
+new-named n is = rw (name_bytes n is) refl
 
 pub callee-named : (names : Names) → HaveNames names → (callee : Callee) → CalleeBelow names callee → is_name (callee_name names callee) ≡ true
 callee-named names have (callees.Fun func) low = function-named names have func.0 low

@@ -15,12 +15,10 @@ use Rattle.ir_lines.specs.Faults.TypeClash.{gives_kind}
 use Rattle.ir_printer.specs.Names.{Names}
 use Rattle.read_back.specs.Said.{cell_word, passed_says}
 use Rattle.read_back.proofs.Spellings.{SpellsType, integer_type, pointer_type}
-
-sixty_four : decimal 64 ≡ codes "64"
-sixty_four = decimal_step 64 (omega arith) (omega arith) ∙ ap (λ ds. ds ++ (52 ∷ [])) (decimal_digit 6 (omega arith))
+use Rattle.ir_printer.proofs.IntegerLemmas.{decimal-64}
 
 pub wide_type : SpellsType (codes "i64") (types.Int 64)
-wide_type = subst (λ (ds : List ℕ). SpellsType (105 ∷ ds) (types.Int 64)) sixty_four (integer_type 64 (omega arith, omega arith))
+wide_type = subst (λ (ds : List ℕ). SpellsType (105 ∷ ds) (types.Int 64)) decimal-64 (integer_type 64 (omega arith, omega arith))
 
 -- the word of a cell spells its type, which reading, resolving and the rules take for the cell's; and its kind is one
 pub record CellReads (cell : Cell) : Type 0 where

@@ -23,9 +23,11 @@ use Rattle.line_parts.specs.Parts.{Val, is_value_type, is_scalar_type, is_case_v
 use Rattle.line_tokens.specs.Words.{pred_word, binary_word, binary_flags, conversion_word, conversion_flags}
 use Rattle.line_forms.specs.Forms.{slots, form_of, named_form, word_form}
 use Rattle.line_forms.specs.Slots.{Item, name, width, ty, value, pred, scalar, layout, place, Slot, blank, m, w, dropped, a_local, parse}
-use Rattle.read_back.proofs.Steps.{Reads, IsClean, past_all-none, end, mark, word, local, layout_step, spaced, space, over_blank, drop_at, drop_end, first_of}
+use Rattle.read_back.proofs.Steps.{Reads, IsClean, end, mark, word, local, layout_step, spaced, space, over_blank, drop_at, drop_end, first_of}
 use Rattle.read_back.proofs.Spellings.{SpellsType, SpellsValue, integer_says, pointer_type, integer_flag, decimal-digits}
 use Rattle.read_back.proofs.PartSteps.{type_step, managed_step, scalar_step, width_step, value_step, case_step, pred_step, no_place, place_step}
+use Rattle.line_forms.proofs.Openings.{binary_named, conversion_named}
+use Rattle.line_parts.proofs.Dropping.{past_all-none}
 
 -- the text is a line of this form, and says this at the form's slots
 pub record ReadsAs (text : List ℕ) (form : Form) (items : List Item) : Type 0 where
@@ -148,22 +150,6 @@ binary_clean ops.Shl = refl
 binary_clean ops.Lshr = refl
 binary_clean ops.Ashr = refl
 
-binary_form : (op : Binary) (more : List Tok) → named_form (binary_word op) more ≡ Some (forms.Binary op)
-unfolding named_form
-binary_form ops.Add more = refl
-binary_form ops.Sub more = refl
-binary_form ops.Mul more = refl
-binary_form ops.Udiv more = refl
-binary_form ops.Sdiv more = refl
-binary_form ops.Urem more = refl
-binary_form ops.Srem more = refl
-binary_form ops.And more = refl
-binary_form ops.Or more = refl
-binary_form ops.Xor more = refl
-binary_form ops.Shl more = refl
-binary_form ops.Lshr more = refl
-binary_form ops.Ashr more = refl
-
 integer_drop : (n : ℕ) → n ≤ 64 → (which : Flags) (more : List Tok) → past_dropped (drops.Words which) (tok kinds.Word (105 ∷ decimal n) ∷ more) ≡ None
 integer_drop n most which more = integer_flag (decimal n) (decimal-digits n (omega arith)) which more
 
@@ -171,7 +157,7 @@ pub binary_line : (op : Binary) (n : List ℕ) → is_name n ≡ true → (bits 
     → ReadsAs (37 ∷ (n ++ (32 ∷ 61 ∷ 32 ∷ (binary_word op ++ (32 ∷ 105 ∷ (decimal bits ++ (32 ∷ (left ++ (44 ∷ 32 ∷ right)))))))))
     (forms.Binary op) (name n ∷ width bits ∷ value l ∷ value r ∷ [])
 binary_line op n is bits narrow {left} {right} {l} {r} s t =
-    rw (← append-nil right) (named_line n (binary_word op) (forms.Binary op) is (binary_form op) refl
+    rw (← append-nil right) (named_line n (binary_word op) (forms.Binary op) is (binary_named op) refl
     (word (binary_word op) (binary_is op) (binary_same op) (binary_clean op) refl
     (spaced (drop_at (drops.Words (binary_flags op)) (integer_drop bits narrow.1 (binary_flags op)) (over_blank (width_step bits narrow refl
     (space (value_step s refl (mark 44 refl refl refl (space (value_step t refl (drop_end drops.Attachments end))))))))))))
@@ -221,17 +207,11 @@ conversion_clean convs.Trunc = refl
 conversion_clean convs.Zext = refl
 conversion_clean convs.Sext = refl
 
-conversion_form : (op : Conversion) (more : List Tok) → named_form (conversion_word op) more ≡ Some (forms.Convert op)
-unfolding named_form
-conversion_form convs.Trunc more = refl
-conversion_form convs.Zext more = refl
-conversion_form convs.Sext more = refl
-
 pub convert_line : (op : Conversion) (n : List ℕ) → is_name n ≡ true → (bits : ℕ) → IsWidth bits → (to : ℕ) → IsWidth to → {left : List ℕ} {l : Val} → SpellsValue left l
     → ReadsAs (37 ∷ (n ++ (32 ∷ 61 ∷ 32 ∷ (conversion_word op ++ (32 ∷ 105 ∷ (decimal bits ++ (32 ∷ (left ++ (codes " to i" ++ decimal to)))))))))
     (forms.Convert op) (name n ∷ width bits ∷ value l ∷ width to ∷ [])
 convert_line op n is bits narrow to high {left} {l} s =
-    rw (← append-nil (decimal to)) (named_line n (conversion_word op) (forms.Convert op) is (conversion_form op) refl
+    rw (← append-nil (decimal to)) (named_line n (conversion_word op) (forms.Convert op) is (conversion_named op) refl
     (word (conversion_word op) (conversion_is op) (conversion_same op) (conversion_clean op) refl
     (spaced (drop_at (drops.Words (conversion_flags op)) (integer_drop bits narrow.1 (conversion_flags op)) (over_blank (width_step bits narrow refl
     (space (value_step s refl (space (word (codes "to") refl refl refl refl (space (width_step to high refl (drop_end drops.Attachments end)))))))))))))

@@ -21,11 +21,12 @@ use Rattle.line_tokens.specs.Families.{statepoint_name, relocate_name, result_fr
 use Rattle.line_forms.specs.Forms.{fit, is_group_form, form_of, form_in, named_form, group_form, word_form, called_form, declared_form, callee_of, declared_of, first_global}
 use Rattle.line_forms.specs.Slots.{Item}
 use Rattle.line_forms.proofs.FamilyLines.{agree_own, fit_is, stands_where_read}
-use Rattle.read_back.proofs.Steps.{IsClean, past_all-none}
+use Rattle.read_back.proofs.Steps.{IsClean}
 use Rattle.read_back.proofs.Spellings.{SpellsType, void_type}
 use Rattle.read_back.proofs.Forms.{ReadsAs, result_tokens}
 use Rattle.read_back.proofs.ListForms.{word_none}
 use Rattle.read_back.proofs.GroupSteps.{as_is, token_then, blank_then}
+use Rattle.line_parts.proofs.Dropping.{past_all-none}
 
 -- in a text of this form the text is a line of this form, and says this at the form's slots
 pub record ReadsIn (of : TextForm) (text : List ℕ) (form : Form) (items : List Item) : Type 0 where

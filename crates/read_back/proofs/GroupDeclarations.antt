@@ -14,13 +14,14 @@ use Rattle.line_forms.specs.Slots.{family_answer}
 use Rattle.line_tokens.specs.Families.{statepoint_name, relocate_name, result_suffix, result_front, is_family_name}
 use Rattle.line_forms.proofs.FamilyLines.{fit_is}
 use Rattle.line_forms.specs.Forms.{slots, form_in, declared_form, declared_of, first_global}
-use Rattle.read_back.proofs.Steps.{Reads, past_all-none, end, word, spaced, space, over_blank, drop_at, drop_end}
+use Rattle.read_back.proofs.Steps.{Reads, end, word, spaced, space, over_blank, drop_at, drop_end}
 use Rattle.read_back.proofs.Spellings.{integer_type, integer_other, pointer_type, pointer_other, decimal-is, decimal-digits}
 use Rattle.read_back.proofs.ListForms.{word_none}
 use Rattle.read_back.proofs.FormsIn.{ReadsIn, declared_by}
 use Rattle.read_back.proofs.CallLines.{digits_named}
 use Rattle.read_back.proofs.GroupSteps.{as_is, token_then, blank_then, token_answer_step, family_step, bracketing_step, statepoint_bracket, relocate_bracket, result_bracket}
 use Rattle.read_back.proofs.GroupForms.{family_line}
+use Rattle.line_parts.proofs.Dropping.{past_all-none}
 
 -- ---- names
 

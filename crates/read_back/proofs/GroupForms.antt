@@ -14,7 +14,7 @@ use Rattle.line_tokens.specs.declared.words.Dropped.TheVariants as drops
 use Rattle.line_tokens.specs.declared.words.Flags.TheVariants as flags
 use Rattle.line_parts.specs.Drops.{after_bracket}
 use Rattle.line_tokens.specs.Families.{statepoint_name, relocate_name, result_front, result_suffix, is_suffix, is_family_name, is_result_of}
-use Rattle.line_forms.proofs.FamilyLines.{fit_is}
+use Rattle.line_forms.proofs.FamilyLines.{fit_is, a_statepoint}
 use Rattle.line_forms.specs.Forms.{slots, form_in, called_form, declared_form, callee_of, first_global}
 use Rattle.line_parts.specs.Lists.{Given, comma}
 use Rattle.line_tokens.specs.Marks.{is_mark, is_word, begins}
@@ -22,7 +22,7 @@ use Rattle.line_parts.specs.Parts.{Val, is_value_type, is_answer_type}
 use Rattle.line_forms.specs.Slots.{Item, name, ty, types as types_said, handed, live, literal, dropped, some_live, family_answer}
 use Rattle.line_parts.specs.Groups.{live_entry_at, suffix_of}
 use Rattle.ir_printer.specs.Lists.{joined}
-use Rattle.read_back.proofs.Steps.{Reads, IsClean, past_all-none, end, mark, word, local, spaced, space, over_blank, drop_at, drop_end}
+use Rattle.read_back.proofs.Steps.{Reads, IsClean, end, mark, word, local, spaced, space, over_blank, drop_at, drop_end}
 use Rattle.read_back.proofs.Spellings.{SpellsType, SpellsLiteral, pointer_type}
 use Rattle.read_back.proofs.PartSteps.{managed_step}
 use Rattle.read_back.proofs.Listed.{SpellsElement, others}
@@ -30,6 +30,8 @@ use Rattle.read_back.proofs.Forms.{result_tokens}
 use Rattle.read_back.proofs.ListForms.{EndsAtMark, word_none}
 use Rattle.read_back.proofs.FormsIn.{ReadsIn, call_callee, value_in, call_tokens, declare_tokens, declared_name, declared_by}
 use Rattle.read_back.proofs.GroupSteps.{as_is, token_then, mark_then, blank_then, global_step, token_step, number_step, call_spelled, SpellsCall, call_step, live_step, no_live, result_step, family_answer_step, family_step, bracketing_step}
+use Rattle.line_parts.proofs.Dropping.{past_all-none}
+use Rattle.name_chains.proofs.Places.{bytes_eq-self}
 
 -- ---- statepoints
 
@@ -43,10 +45,6 @@ unfolding callee_of first_global statepoint_name
 statepoint_callee ts =
     rw (past_all-none (drops.Words flags.Calling) (tok kinds.Word (codes "call") ∷ type_tokens (tok kinds.Global (codes "@llvm.experimental.gc.statepoint.p0") ∷ ts)) refl)
     (rw (past_all-none drops.Groups (type_tokens (tok kinds.Global (codes "@llvm.experimental.gc.statepoint.p0") ∷ ts)) refl) refl)
-
-statepoint_called : called_form (Some statepoint_name) ≡ forms.Statepoint
-unfolding statepoint_name result_suffix result_front
-statepoint_called = refl
 
 abbrev pub statepoint_front : List ℕ → List ℕ
 statepoint_front rest = codes "call token (i64, i32, ptr, i32, i32, ...) @llvm.experimental.gc.statepoint.p0(" ++ rest
@@ -83,7 +81,7 @@ module _ {P Y : Type 0} (n : List ℕ) (is : is_name n ≡ true) {id answer call
 
       form_is : form_in text_forms.Rewritten (tokens (spelled rest)) ≡ Some forms.Statepoint
       form_is = rw (result_tokens n (statepoint_front body) is) (rw (statepoint_tokens body)
-          (value_in (37 ∷ n) statepoint_name (type_tokens (tok kinds.Global (codes "@llvm.experimental.gc.statepoint.p0") ∷ tokens (40 ∷ body))) (statepoint_callee (tokens (40 ∷ body))) ∙ ap Some statepoint_called))
+          (value_in (37 ∷ n) statepoint_name (type_tokens (tok kinds.Global (codes "@llvm.experimental.gc.statepoint.p0") ∷ tokens (40 ∷ body))) (statepoint_callee (tokens (40 ∷ body))) ∙ ap Some a_statepoint))
 
   -- a statepoint without live entries
   pub bare_statepoint_line : ReadsIn text_forms.Rewritten (spelled []) forms.Statepoint (saying (live [] ∷ []))
@@ -106,9 +104,6 @@ pub record ResultNamed {spelled : List ℕ} {of_type : TypeWord} (t : SpellsType
   pub ends : is_suffix (Some suffix) ≡ true
   pub named : is_name (codes "llvm.experimental.gc.result." ++ suffix) ≡ true
 
-bytes_self : (bs : List ℕ) → bytes_eq bs bs ≡ true
-bytes_self bs = (bytes_eq-Decides bs bs).1 refl
-
 result_named : (suffix : List ℕ) → result_suffix (codes "llvm.experimental.gc.result." ++ suffix) ≡ Some suffix
 unfolding result_suffix result_front
 result_named suffix = refl
@@ -117,7 +112,7 @@ result_called : (suffix : List ℕ) → is_suffix (Some suffix) ≡ true → cal
 result_called suffix ends = rw (result_named suffix) (rw ends refl)
 
 result_is : (suffix : List ℕ) → is_result_of suffix (codes "llvm.experimental.gc.result." ++ suffix) ≡ true
-result_is suffix = rw (result_named suffix) (bytes_self suffix)
+result_is suffix = rw (result_named suffix) (bytes_eq-self suffix)
 
 -- `%x = call T @llvm.experimental.gc.result.S(token %t)`
 pub result_line : (n : List ℕ) → is_name n ≡ true → {spelled : List ℕ} {of_type : TypeWord} (t : SpellsType spelled of_type) (suffix : List ℕ) → ResultNamed t suffix → (token : List ℕ) → is_name token ≡ true

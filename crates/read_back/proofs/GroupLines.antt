@@ -55,6 +55,7 @@ use Rattle.read_back.proofs.OneLine.{LineIn, made}
 use Rattle.read_back.proofs.GroupSteps.{call_spelled, SpellsCall, live_element, live_opens}
 use Rattle.read_back.proofs.FormsIn.{ReadsIn}
 use Rattle.read_back.proofs.GroupForms.{ResultNamed, statepoint_front, bare_statepoint_line, live_statepoint_line, result_line, relocate_line}
+use Rattle.ir_printer.proofs.IntegerLemmas.{decimal-32}
 
 -- ---- numbers
 
@@ -64,9 +65,6 @@ integer_literal width number most more = by (ne_eqb width 1 (λ e. omega arith))
   where
     by : (width == 1) ≡ false → SpellsLiteral (if width == 1 then (if wrapped 1 number == 0 then codes "false" else codes "true") else signed_decimal (signed width number)) (literal_of (signed width number))
     by other = rw other (literal_token (signed width number) (signed-spellable width number most))
-
-thirty_two : decimal 32 ≡ codes "32"
-thirty_two = decimal_step 32 (omega arith) (omega arith) ∙ ap (λ ds. ds ++ (50 ∷ [])) (decimal_digit 3 (omega arith))
 
 -- ---- parameters
 
@@ -267,7 +265,7 @@ unfolding relocate_words
 relocate_shape names n token base derived =
     relocate_parts n (value_name names.func token.0) (decimal 32) (integer_text 32 base) (integer_text 32 derived)
     ∙ ap (λ ds. 37 ∷ (n ++ (32 ∷ 61 ∷ 32 ∷ (codes "call ptr addrspace(1) @llvm.experimental.gc.relocate.p1(token %" ++ (value_name names.func token.0
-    ++ (codes ", i" ++ (ds ++ (32 ∷ (integer_text 32 base ++ (codes ", i" ++ (ds ++ (32 ∷ (integer_text 32 derived ++ codes ")"))))))))))))) thirty_two
+    ++ (codes ", i" ++ (ds ++ (32 ∷ (integer_text 32 base ++ (codes ", i" ++ (ds ++ (32 ∷ (integer_text 32 derived ++ codes ")"))))))))))))) decimal-32
 
 -- `%x = call P @llvm.experimental.gc.relocate.p1(token %t, i32 B, i32 D)`
 pub relocate_reads : (names : Names) → HaveNames names → (n : List ℕ) (token : ValueId) (base derived : ℕ) → is_name n ≡ true → token.0 < length (definitions_of names.func)

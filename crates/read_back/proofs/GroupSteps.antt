@@ -24,11 +24,13 @@ use Rattle.line_parts.specs.Parts as values
 use Rattle.line_forms.specs.Forms.{callee_type, callee_count}
 use Rattle.line_forms.specs.Slots.{Item, name, ty, types as types_said, handed, live, literal, family_answer, Slot, blank, m, g, a_zero, a_closing, a_family_answer, a_family, a_bracketing, a_token, a_global, some_types, some_handed, some_live, a_result, a_number, part, parse}
 use Rattle.line_parts.specs.Groups.{number_at, is_zero, zero_at, token_at, types_at, takes_own, closing_at, begins_argument, handed_at, live_entry_at, bundle_at, live_at, suffix_of, result_at, family_answer_at, bracketing_at}
-use Rattle.read_back.proofs.Steps.{Reads, Stops, IsClean, clean-both, name-clean, one, step, step_to, past_all-none, first_of, stops-kind, mark, word, spaced, space, over_blank, drop_at}
+use Rattle.read_back.proofs.Steps.{Reads, Stops, IsClean, clean-both, name-clean, one, step, step_to, first_of, stops-kind, mark, word, spaced, space, over_blank, drop_at}
 use Rattle.read_back.proofs.PartSteps.{answer_step}
 use Rattle.read_back.proofs.Spellings.{SpellsType, SpellsValue, SpellsLiteral, allowed, pointer_type}
 use Rattle.read_back.proofs.Listed.{SpellsElement, others, comma_spelled, clean_others, ends_others, listed, list_read, list_clean}
 use Rattle.read_back.proofs.ListForms.{EndsAtMark, at_comma, at_closing, closing_tokens, anywhere, goes_by_comma, passed_spelled, passed_opens, step_any}
+use Rattle.line_parts.proofs.Dropping.{past_all-none}
+use Rattle.list_laws.proofs.Contents.{same_bytes}
 
 -- ---- tokens, one after another
 
@@ -165,9 +167,6 @@ pub record EndsHanded (rest : List ℕ) : Type 0 where
   pub opens : mark_at (codes ")") (tokens rest) ≡ None
   pub whole : second_half (tokens rest) ≡ None
 
-bytes_same : (a b : List ℕ) → bytes_eq a b ≡ true → a ≡ b
-bytes_same a b is = (bytes_eq-Decides a b).0 is
-
 abbrev left : {A : Type 0} → Found A → List Tok
 left None = []
 left (Some y) = y.1
@@ -186,13 +185,13 @@ zero_passed plain (tok kinds.Word bytes ∷ ts) us e = by (bytes_eq bytes (codes
         zero : (is : Bool) → bytes_eq bs (codes "0") ≡ is → with_rest vs (found_if is) ≡ Some (tt, us)
             → given_behind (types.Int 32) (tok kinds.Number bs ∷ vs) ≡ Some (given (types.Int 32) (values.number (record { negative = false; magnitude = 0 })), us)
         zero false same e = cc
-        zero true same e = let is : bs ≡ codes "0" = bytes_same bs (codes "0") same in rw is (let behind : vs ≡ us = ap left e in rw behind refl)
+        zero true same e = let is : bs ≡ codes "0" = same_bytes bs (codes "0") same in rw is (let behind : vs ≡ us = ap left e in rw behind refl)
     digits _ e = cc
 
     by : (is : Bool) → bytes_eq bytes (codes "i32") ≡ is → after (with_rest ts (found_if is)) (λ _ ts. one_at (stands is_zero) (past_all drops.Groups ts)) ≡ Some (tt, us)
         → passed_at plain (tok kinds.Word bytes ∷ ts) ≡ Some (given (types.Int 32) (values.number (record { negative = false; magnitude = 0 })), us)
     by false same e = cc
-    by true same e = let is : bytes ≡ codes "i32" = bytes_same bytes (codes "i32") same in rw is (digits (past_all drops.Groups ts) e)
+    by true same e = let is : bytes ≡ codes "i32" = same_bytes bytes (codes "i32") same in rw is (digits (past_all drops.Groups ts) e)
 zero_passed plain _ us e = cc
 
 behind_same : (plain : Bool) (x : Given) (ts us vs : List Tok) → passed_at plain ts ≡ Some (x, us) → zero_at ts ≡ Some (tt, vs) → vs ≡ us

@@ -27,6 +27,7 @@ use Rattle.line_forms.specs.Seen.{Said, label, of_form, line_at}
 use Rattle.ir_reader.specs.Text.{nothing, said, outcome, Fault, Numbered, with_first, readings, is_top, within, labelled, tokens_outcome}
 use Rattle.ir_reader.specs.Text as texts
 use Rattle.ir_lines.specs.Statements.{Statement, stated}
+use Rattle.list_laws.proofs.Places.{map_append}
 
 -- a byte that ends no line
 abbrev pub ends_none : ℕ → Bool
@@ -89,17 +90,13 @@ before-before front more (Err fault) = refl
 pub says-nil : (s : State) → Says s [] s []
 says-nil s = record { read = λ number. []; next = λ number. number; reads = λ number rest. before-nil (readings s number (numbered number (lines rest))); says = λ number. refl }
 
-map-append : {A B : Type 0} (f : A → B) (xs ys : List A) → map f (xs ++ ys) ≡ map f xs ++ map f ys
-map-append f [] ys = refl
-map-append f (x ∷ xs) ys = ap (λ more. f x ∷ more) (map-append f xs ys)
-
 pub says-both : {s t u : State} {a b : List ℕ} {x y : List Statement} → Says s a t x → Says t b u y → Says s (a ++ b) u (x ++ y)
 says-both {s} {t} {u} {a} {b} {x} {y} first second = record {
   read = λ number. first.read number ++ second.read (first.next number);
   next = λ number. second.next (first.next number);
   reads = λ number rest. rw (append_assoc a b rest) (first.reads number (b ++ rest)
       ∙ (ap (before (first.read number)) (second.reads (first.next number) rest) ∙ before-before (first.read number) (second.read (first.next number)) _));
-  says = λ number. map-append (λ one. stated one.said) (first.read number) (second.read (first.next number)) ∙ (rw (first.says number) (rw (second.says (first.next number)) refl));
+  says = λ number. map_append (λ one. stated one.said) (first.read number) (second.read (first.next number)) ∙ (rw (first.says number) (rw (second.says (first.next number)) refl));
 }
 
 with_first-before : (one : Numbered) (found : Result (List Numbered) Fault) → with_first one found ≡ before (one ∷ []) found

@@ -19,11 +19,12 @@ use Rattle.line_parts.specs.Lists.{Named, Given, given, function, listed_at, lis
 use Rattle.line_forms.specs.Forms.{slots, form_of, named_form, word_form}
 use Rattle.line_forms.specs.Slots.{Item, name, layout_name, ty, fields, entries, declared, defined, called, strategy, Slot, blank, m, w, some_fields, some_entries, a_declared, a_defined, a_called, part, parse}
 use Rattle.ir_printer.specs.Lists.{joined}
-use Rattle.read_back.proofs.Steps.{Reads, Stops, IsClean, clean-both, name-clean, stops-kind, past_all-none, end, step_to, mark, word, layout_head, spaced, space, over_blank, drop_at, drop_end, first_of}
+use Rattle.read_back.proofs.Steps.{Reads, Stops, IsClean, clean-both, name-clean, stops-kind, end, step_to, mark, word, layout_head, spaced, space, over_blank, drop_at, drop_end, first_of}
 use Rattle.read_back.proofs.Spellings.{SpellsType, SpellsValue, allowed}
 use Rattle.read_back.proofs.PartSteps.{type_step, answer_step, strategy_step, strategy_word}
 use Rattle.read_back.proofs.Forms.{ReadsAs, word_line, named_line, named_by, result_tokens}
 use Rattle.read_back.proofs.Listed.{SpellsElement, others, comma_spelled, listed, list_read, list_clean}
+use Rattle.line_parts.proofs.Dropping.{past_all-none}
 
 -- what follows begins with a mark
 pub record EndsAtMark (rest : List ℕ) : Type 0 where

@@ -18,6 +18,7 @@ use Rattle.line_parts.specs.Gives.{after, one_at}
 use Rattle.line_tokens.specs.Marks.{is_word, is_mark}
 use Rattle.line_parts.specs.Drops.{past_dropped, past_at_most, past_all}
 use Rattle.line_forms.specs.Slots.{Item, name, layout, layout_name, Slot, blank, m, w, dropped, a_local, a_layout, a_layout_name, part, parse}
+use Rattle.line_parts.proofs.Dropping.{past_all-none}
 
 abbrev pub first_of : List Tok → Option Tok
 first_of [] = None
@@ -203,10 +204,6 @@ at_most-none : (count : ℕ) (what : Dropped) (ts : List Tok) → past_dropped w
 unfolding past_at_most
 at_most-none zero what ts none = refl
 at_most-none (suc count) what ts none = rw (none, past_at_most) refl
-
-pub past_all-none : (what : Dropped) (ts : List Tok) → past_dropped what ts ≡ None → past_all what ts ≡ ts
-unfolding past_all
-past_all-none what ts none = at_most-none (length ts) what ts none
 
 drop_by : {f : List Slot} {text : List ℕ} {first : Option Tok} {items : List Item} (what : Dropped) → past_dropped what (tokens text) ≡ None → Reads f text first items → Reads (dropped what ∷ f) text first items
 unfolding parse after part

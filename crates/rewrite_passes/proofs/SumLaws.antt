@@ -5,7 +5,7 @@ use Rattle.std.proofs.Math.Seq.{drop-cons}
 use Rattle.std.proofs.lemmas.List.{length-map, map-append, take-append-drop}
 use Rattle.std.proofs.lemmas.List.Sums.{sum-map, sum_by-append, sum_by-cons}
 use Rattle.ir_ast.specs.Funcs.{Function, LinedFunction, content_of}
-use Rattle.statepoint_insert.specs.Groups.{valued}
+use Rattle.ir_ast.specs.Operands.{valued}
 
 sizes : (lists : List (List ℕ)) → map length (map (map valued) lists) ≡ map length lists
 sizes [] = refl

@@ -2,7 +2,7 @@
 
 ghost use Rattle.std.specs.Prelude.{◌≡◌, map};
 ghost use Rattle.rewriting_forms.specs.Liveness.{live_lists};
-ghost use Rattle.statepoint_insert.specs.Groups.{valued};
+ghost use Rattle.ir_ast.specs.Operands.{valued};
 
 use ir_ast::{BaseTable, Func, LiveTable};
 use std::marker::Model;
@@ -20,7 +20,7 @@ impl Model for Before {
     ghost use Rattle.std.specs.Prelude.{◌≡◌, map};
     ghost use Rattle.rewriting_forms.specs.Liveness.{live_lists};
     ghost use Rattle.rewrite_passes.specs.Before.{BeforeGroups};
-    ghost use Rattle.statepoint_insert.specs.Groups.{valued};
+    ghost use Rattle.ir_ast.specs.Operands.{valued};
 
     ghost Value = { BeforeGroups };
 

@@ -1,4 +1,4 @@
-mod ExampleOne
-pub mod ExampleTwo
-mod ExampleThree
-mod ExampleFour
+mod SampleOne
+pub mod SampleTwo
+mod SampleThree
+mod SampleFour

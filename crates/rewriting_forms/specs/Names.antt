@@ -113,5 +113,6 @@ naming_after naming now = record {
 abbrev pub least_naming : Function → List Operand → Naming
 least_naming func table = naming_after (full_naming func table) (becomes same_name (phis_of func table))
 
+-- the names that the rewritten function takes
 abbrev pub naming_of : Function → List Operand → Naming
-naming_of = full_naming
+naming_of = least_naming

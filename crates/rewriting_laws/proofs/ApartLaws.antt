@@ -19,23 +19,16 @@ use Rattle.rewriting_forms.specs.Liveness.{is_live_after, live_list}
 use Rattle.rewriting_forms.specs.Names.{Name, own, relocated, joined, token, Naming}
 use Rattle.rewriting_forms.specs.Rewritten.{same_name, line_names, joined_at, block_names, names_of}
 use Rattle.rewriting_laws.proofs.PlaceLaws.{Apart}
+use Rattle.list_laws.proofs.Ranges.{range_back}
+use Rattle.list_laws.proofs.Places.{get_joined}
 
 -- a name of a list
 abbrev Has : List Name → Name → Type 0
 Has names name = (i : ℕ) × (slice_get names i ≡ Some name)
 
-split_get : {A : Type 0} (xs ys : List A) (i : ℕ) (x : A) → slice_get (xs ++ ys) i ≡ Some x
-    → (slice_get xs i ≡ Some x) ⊎ ((j : ℕ) × (length xs + j ≡ i) × (slice_get ys j ≡ Some x))
-split_get [] ys i x is = inr (i, omega arith, is)
-split_get (z ∷ xs) ys zero x is = inl is
-split_get (z ∷ xs) ys (suc i) x is = elim (split_get xs ys i x is) [
-  | inl front ↦ inl front
-  | inr back ↦ let e = back.1 in inr (back.0, omega arith, back.2)
-]
-
 apart_append : (xs ys : List Name) → Apart xs → Apart ys → ((one other : Name) → Has xs one → Has ys other → same_name one other ≡ false) → Apart (xs ++ ys)
 apart_append xs ys first second cross i j one other below one_is other_is =
-    both (split_get xs ys i one one_is) (split_get xs ys j other other_is)
+    both (get_joined xs ys i one one_is) (get_joined xs ys j other other_is)
   where
     both : (slice_get xs i ≡ Some one) ⊎ ((k : ℕ) × (length xs + k ≡ i) × (slice_get ys k ≡ Some one))
         → (slice_get xs j ≡ Some other) ⊎ ((k : ℕ) × (length xs + k ≡ j) × (slice_get ys k ≡ Some other)) → same_name one other ≡ false
@@ -53,7 +46,7 @@ apart_append xs ys first second cross i j one other below one_is other_is =
 -- lists joined end to end, where names of different ones differ
 has_flat : (f : ℕ → List Name) (from count : ℕ) (name : Name) → Has (flat_map f (range_with_len from count)) name → (k : ℕ) × (from ≤ k) × (k < from + count) × Has (f k) name
 has_flat f from zero name has = absurd (let h = has.1 in cc)
-has_flat f from (suc count) name has = elim (split_get (f from) (flat_map f (range_with_len (from + 1) count)) has.0 name has.1) [
+has_flat f from (suc count) name has = elim (get_joined (f from) (flat_map f (range_with_len (from + 1) count)) has.0 name has.1) [
   | inl here ↦ (from, omega arith, omega arith, (has.0, here))
   | inr there ↦
       let rest = has_flat f (from + 1) count name (there.0, there.2) in
@@ -75,17 +68,10 @@ apart_flat f from (suc count) each cross =
 abbrev Once : List ℕ → Type 0
 Once xs = (i j x y : ℕ) → i < j → slice_get xs i ≡ Some x → slice_get xs j ≡ Some y → x ≡ y → ⊥
 
-from_range : (from count i x : ℕ) → slice_get (range_with_len from count) i ≡ Some x → x ≡ from + i
-from_range from zero i x is = absurd (cc)
-from_range from (suc count) zero x is =
-    let e : from ≡ x = cc in
-    omega arith
-from_range from (suc count) (suc i) x is = let h = from_range (from + 1) count i x is in omega (arith, h)
-
 once_range : (from count : ℕ) → Once (range_with_len from count)
 once_range from count i j x y below x_is y_is same =
-    let a = from_range from count i x x_is in
-    let b = from_range from count j y y_is in
+    let a = range_back from count i x x_is in
+    let b = range_back from count j y y_is in
     omega (arith, a, b)
 
 -- the place of what a filter keeps, in the whole list
@@ -193,9 +179,9 @@ module _ (func : Function) (table : List Operand) (naming : Naming) where
 
   line_has : (b k : ℕ) (name : Name) → k < length (lines_at func b) → Has (line_names func table b k) name → InLine b k name
   line_has b k name within has =
-      elim (split_get (if calls (line_at func b k) then token b k ∷ [] else []) (option_map_or (λ (x : ℕ). own x ∷ []) (line_at func b k).to [] ++ (if calls (line_at func b k) then map (relocated b k) (live_list func table b k) else [])) has.0 name has.1) [
+      elim (get_joined (if calls (line_at func b k) then token b k ∷ [] else []) (option_map_or (λ (x : ℕ). own x ∷ []) (line_at func b k).to [] ++ (if calls (line_at func b k) then map (relocated b k) (live_list func table b k) else [])) has.0 name has.1) [
         | inl one ↦ of_token (calls (line_at func b k)) has.0 one
-        | inr rest ↦ elim (split_get (option_map_or (λ (x : ℕ). own x ∷ []) (line_at func b k).to []) (if calls (line_at func b k) then map (relocated b k) (live_list func table b k) else []) rest.0 name rest.2) [
+        | inr rest ↦ elim (get_joined (option_map_or (λ (x : ℕ). own x ∷ []) (line_at func b k).to []) (if calls (line_at func b k) then map (relocated b k) (live_list func table b k) else []) rest.0 name rest.2) [
           | inl mine ↦ of_own (line_at func b k).to refl rest.0 mine
           | inr relocates ↦ of_relocates (calls (line_at func b k)) relocates.0 relocates.2
         ]
@@ -320,7 +306,7 @@ module _ (func : Function) (table : List Operand) (naming : Naming) where
           → Has (option_map_or (λ (x : ℕ). own x ∷ []) to [] ++ (if u then map (relocated b k) (live_list func table b k) else [])) other → same_name one other ≡ false
       tokens t to u one other has has' =
           let a = of_token t one has.0 has.1 in
-          elim (split_get (option_map_or (λ (x : ℕ). own x ∷ []) to []) (if u then map (relocated b k) (live_list func table b k) else []) has'.0 other has'.1) [
+          elim (get_joined (option_map_or (λ (x : ℕ). own x ∷ []) to []) (if u then map (relocated b k) (live_list func table b k) else []) has'.0 other has'.1) [
             | inl mine ↦ let c = of_own to other has'.0 mine in rw (← a, ← c.1) refl
             | inr relocates ↦ let c = of_list u other relocates.0 relocates.2 in rw (← a, ← c.1) refl
           ]
@@ -374,7 +360,7 @@ module _ (func : Function) (table : List Operand) (naming : Naming) where
 
   block_has : (b : ℕ) (name : Name) → b < length func.blocks → Has (block_names func table naming b) name → InBlock b name
   block_has b name below has =
-      elim (split_get (map (joined b) (joined_at func naming b)) (flat_map (line_names func table b) (range_with_len 0 (length (lines_at func b)))) has.0 name has.1) [
+      elim (get_joined (map (joined b) (joined_at func naming b)) (flat_map (line_names func table b) (range_with_len 0 (length (lines_at func b)))) has.0 name has.1) [
         | inl front ↦ let get = map_get (joined b) (joined_at func naming b) has.0 name front in subst (InBlock b) get.2 refl
         | inr rest ↦
             let at = has_flat (line_names func table b) 0 (length (lines_at func b)) name (rest.0, rest.2) in
@@ -432,7 +418,7 @@ module _ (func : Function) (table : List Operand) (naming : Naming) where
       (λ b c one other le below lt has has'. blocks_differ b c one other below (omega arith) (block_has b one (omega arith) has) (block_has c other (omega arith) has')))
       (λ one other has has'.
       let get = map_get own (range_with_len 0 (length func.args)) has.0 one has.1 in
-      let place = from_range 0 (length func.args) has.0 get.0 get.1 in
+      let place = range_back 0 (length func.args) has.0 get.0 get.1 in
       let short = slice_get_within (range_with_len 0 (length func.args)) has.0 get.0 get.1 in
       let count = length-range_with_len 0 (length func.args) in
       let at = has_flat (block_names func table naming) 0 (length func.blocks) other has' in

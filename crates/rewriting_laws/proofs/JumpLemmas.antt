@@ -24,9 +24,12 @@ use Rattle.rewriting_forms.specs.Names.{Name, own, joined, Naming, names_at, nam
 use Rattle.rewriting_forms.specs.Rewritten.{Piece, renamed, joined_at, inserted_phi, phi_operands, renamed_inst, plain as plain_piece, expanded_by, expanded}
 use Rattle.rewriting_laws.specs.Laws.{Edge, IsPlain, IsClosed, IsNumbering, Fits}
 use Rattle.rewriting_laws.proofs.ReadLemmas.{read, written, read_put_all, read_put_all_kept, written_append}
-use Rattle.rewriting_laws.proofs.NameLemmas.{among_cons, among_here, among_there, among_filter, filter_among, given_is, at_rest, names_given, names_kept, names_owner, number_apart, found, prefix_append, is_one, is_none, call_or_not}
+use Rattle.rewriting_laws.proofs.NameLemmas.{among_cons, among_here, among_there, among_filter, filter_among, at_rest, names_given, names_kept, names_owner, number_apart, found, prefix_append, is_one, is_none, call_or_not}
 use Rattle.rewriting_laws.specs.Related.{Rewriting, piece_line, lines_now, rest_now}
 use Rattle.rewriting_laws.proofs.KeptLemmas.{value_kept}
+use Rattle.object_meaning.proofs.LineLaws.{given_is}
+use Rattle.list_laws.proofs.Tests.{prefix_passes, position_passes}
+use Rattle.list_laws.proofs.Places.{get_map}
 
 phi_stays : (op : Op) → is_phi op ≡ true → is_call op ≡ false
 phi_stays Phi is = refl
@@ -90,18 +93,7 @@ module _ (func : Function) (table : List Operand) (naming : Naming) (number : Na
         ∙ rw (none line rest refl) refl
   ]
 
-prefix_all : {A : Type 0} (p : A → Bool) (xs : List A) (k : ℕ) (x : A) → slice_get (take (prefix_len p xs) xs) k ≡ Some x → p x ≡ true
-prefix_all p [] k x is = absurd (cc)
-prefix_all p (y ∷ xs) k x is = elim (cases_Bool (p y)) [
-  | inr other ↦ absurd (let h = rw other at is in cc)
-  | inl here ↦ go k (let e : 1 + prefix_len p xs ≡ suc (prefix_len p xs) = omega arith in let h1 = rw here at is in let h = rw e at h1 in h) here (λ j. prefix_all p xs j x)
-]
-  where
-    go : (k : ℕ) → slice_get (y ∷ take (prefix_len p xs) xs) k ≡ Some x → p y ≡ true → ((j : ℕ) → slice_get (take (prefix_len p xs) xs) j ≡ Some x → p x ≡ true) → p x ≡ true
-    go zero is here rest = let e : y ≡ x = cc in ap p (sym e) ∙ here
-    go (suc k) is here rest = rest k is
-
-prefix_within : {A : Type 0} (p : A → Bool) (xs : List A) → length (take (prefix_len p xs) xs) ≡ prefix_len p xs
+pub prefix_within : {A : Type 0} (p : A → Bool) (xs : List A) → length (take (prefix_len p xs) xs) ≡ prefix_len p xs
 prefix_within p [] = refl
 prefix_within p (y ∷ xs) = elim (cases_Bool (p y)) [
   | inr other ↦ rw other refl
@@ -110,25 +102,13 @@ prefix_within p (y ∷ xs) = elim (cases_Bool (p y)) [
       rw (here, e) (ap suc (prefix_within p xs))
 ]
 
--- what stands at the place that `position` gives
-position_get : {A : Type 0} (p : A → Bool) (xs : List A) (i : ℕ) → position p xs ≡ Some i → (x : A) × (slice_get xs i ≡ Some x) × (p x ≡ true)
-position_get p [] i is = absurd (cc)
-position_get p (y ∷ xs) i is =
-    let parts = position-Some p (y ∷ xs) i y is in
-    (get_or (y ∷ xs) i y, slice_get-get_or (y ∷ xs) i y parts.0, parts.1)
-
-label_get : (labels : List BlockId) (from : ℕ) → among from (map (λ (l : BlockId). l.0) labels) ≡ true
+pub label_get : (labels : List BlockId) (from : ℕ) → among from (map (λ (l : BlockId). l.0) labels) ≡ true
     → (k : ℕ) × (label : BlockId) × (slice_get labels k ≡ Some label) × (eqb label.0 from ≡ true)
 label_get [] from is = absurd (false≢true is)
 label_get (l ∷ labels) from is = elim (cases_Bool (eqb l.0 from)) [
   | inl here ↦ (0, l, refl, here)
   | inr other ↦ let rest = label_get labels from (let h = rw other at is in h) in (suc rest.0, rest.1, rest.2, rest.3)
 ]
-
-slice_map : {A B : Type 0} (f : A → B) (xs : List A) (k : ℕ) (x : A) → slice_get xs k ≡ Some x → slice_get (map f xs) k ≡ Some (f x)
-slice_map f [] k x is = absurd (cc)
-slice_map f (y ∷ xs) zero x is = ap (λ (z : _). Some (f z)) (cc)
-slice_map f (y ∷ xs) (suc k) x is = slice_map f xs k x is
 
 module _ (text : Name → List ℕ) (func : Function) (table : List Operand) (naming : Naming) (live : ℕ → ℕ → ℕ → Bool) (fits : Fits func table naming live)
     (number : Name → ℕ) (room now_room : ℕ) (numbers : IsNumbering func table naming.joins number now_room) (plain : IsPlain func room)
@@ -161,8 +141,8 @@ module _ (text : Name → List ℕ) (func : Function) (table : List Operand) (na
         let first = label_get labels from edge in
         let place = found (λ (label : BlockId). eqb label.0 from) labels first.0 first.1 first.2 first.3 in
         let block : (place.1).0 ≡ from = eqb-true (place.1).0 from place.4 in
-        let operand_is = slice_map (λ (p : ℕ). named (number (names_at_end func table naming p v))) (map (λ (l : BlockId). l.0) labels) place.0 (place.1).0
-        (slice_map (λ (l : BlockId). l.0) labels place.0 place.1 place.3) in
+        let operand_is = get_map (λ (p : ℕ). named (number (names_at_end func table naming p v))) (map (λ (l : BlockId). l.0) labels) place.0 (place.1).0
+        (get_map (λ (l : BlockId). l.0) labels place.0 place.1 place.3) in
         ap (λ (p : Option ℕ). option_map_or (operand now (map (λ (p : ℕ). named (number (names_at_end func table naming p v))) (preds func to))) p nothing) place.2
         ∙ ap (λ (o : Option Operand). option_map_or (value now) o nothing) operand_is
         ∙ ap (λ (p : ℕ). read now (number (names_at_end func table naming p v))) block
@@ -200,7 +180,7 @@ module _ (text : Name → List ℕ) (func : Function) (table : List Operand) (na
             ap (λ (p : Option ℕ). option_map_or (operand now (renamed_inst func table naming number to k phi.inst).operands) p nothing) none
             ∙ sym (ap (λ (p : Option ℕ). option_map_or (operand registers phi.inst.operands) p nothing) none)
         go (Some i) at =
-            let label = position_get (λ (l : BlockId). eqb l.0 from) phi.inst.labels i at in
+            let label = position_passes (λ (l : BlockId). eqb l.0 from) phi.inst.labels i at in
             let block = eqb-true (label.0).0 from label.2 in
             ap (λ (p : Option ℕ). option_map_or (operand now (renamed_inst func table naming number to k phi.inst).operands) p nothing) at
             ∙ ap (λ (os : List Operand). operand now os i) operands_are
@@ -320,7 +300,7 @@ module _ (text : Name → List ℕ) (func : Function) (table : List Operand) (na
     place_phis = sym (take-append-drop (phi_count (lines_at func to)) (lines_at func to))
 
     all_phis : (k : ℕ) (x : Line) → slice_get phis k ≡ Some x → is_phi x.inst.op ≡ true
-    all_phis k x is = prefix_all (λ (line : Line). is_phi line.inst.op) (lines_at func to) k x is
+    all_phis k x is = prefix_passes (λ (line : Line). is_phi line.inst.op) (lines_at func to) k x is
 
     front_name : (v : ℕ) → names_at func table naming to front v ≡ (if gives_any phis v then own v else naming.front to v)
     front_name v =
@@ -422,7 +402,7 @@ module _ (r : Rewriting) (room : ℕ) (plain : IsPlain r.func room) (to : ℕ) w
       ++ phi_pieces r.func r.table r.naming r.number to 0 (take (phi_count (lines_at r.func to)) (lines_at r.func to)))
 
   these_phis : (k : ℕ) (x : Line) → slice_get phis_of k ≡ Some x → is_phi x.inst.op ≡ true
-  these_phis k x is = prefix_all (λ (line : Line). is_phi line.inst.op) (lines_at r.func to) k x is
+  these_phis k x is = prefix_passes (λ (line : Line). is_phi line.inst.op) (lines_at r.func to) k x is
 
   pub lines_split : lines_now r to ≡ phi_lines ++ rest_now r to (phi_count (lines_at r.func to)) (drop (phi_count (lines_at r.func to)) (lines_at r.func to))
   lines_split =

@@ -55,6 +55,7 @@ use Rattle.rewriting_laws.proofs.StateLemmas.{TaskKept, no_task, one_task, task_
 use Rattle.rewriting_laws.proofs.AnswerLemmas.{answered_kept, resumed_kept}
 use Rattle.rewriting_laws.proofs.CallLemmas.{entered_kept, other, built, built_kept, OperandsKept, called_kept, stepped_kept, more_steps}
 use Rattle.rewriting_laws.proofs.StepLemmas.{line_kept, call_now, entries_now, after_call, rest_is_call, regrouped_kept, call_operands}
+use Rattle.list_laws.proofs.Places.{drop_map}
 
 cases_same : (number : Name → ℕ) (names : Names) (datum : Datum) (operands : List Operand) → case_taken datum (map (renamed number names) operands) ≡ case_taken datum operands
 cases_same to names datum operands = ap (λ (p : Option ℕ). option_map_or (λ (place : ℕ). place + 1) p 0) (same_place operands)
@@ -75,11 +76,6 @@ cases_same to names datum operands = ap (λ (p : Option ℕ). option_map_or (λ 
 
     same_place : (operands : List Operand) → position (is_case (number_in datum)) (map (renamed to names) operands) ≡ position (is_case (number_in datum)) operands
     same_place operands = rw (same_prefix operands, length-map operands (renamed to names)) refl
-
-drop_map : {A B : Type 0} (f : A → B) (n : ℕ) (xs : List A) → drop n (map f xs) ≡ map f (drop n xs)
-drop_map f zero xs = refl
-drop_map f (suc n) [] = refl
-drop_map f (suc n) (x ∷ xs) = drop_map f n xs
 
 function_same : (number : Name → ℕ) (names : Names) (operands : List Operand) → function_in (slice_get (map (renamed number names) operands) 0) ≡ function_in (slice_get operands 0)
 function_same to names [] = refl

@@ -19,7 +19,8 @@ use Rattle.rewriting_forms.specs.Rewritten.{Piece, renamed, is_null, entries, sa
 use Rattle.rewriting_laws.specs.Related.{piece_line}
 use Rattle.rewriting_laws.specs.Laws.{IsPlain, IsClosed, IsNumbering, Fits}
 use Rattle.rewriting_laws.proofs.ReadLemmas.{read, length_put, read_put_same, read_put_other, length_put_all, written, read_put_all, read_put_all_kept, written_append}
-use Rattle.rewriting_laws.proofs.NameLemmas.{among_cons, among_here, among_there, among_filter, line_is, given_is, names_given, names_kept, names_unlisted, names_listed, names_owner, number_apart, found}
+use Rattle.rewriting_laws.proofs.NameLemmas.{among_cons, among_here, among_there, among_filter, line_is, names_given, names_kept, names_unlisted, names_listed, names_owner, number_apart, found}
+use Rattle.object_meaning.proofs.LineLaws.{given_is}
 
 -- operands under names
 module _ (number : Name → ℕ) (names : Names) (live : ℕ → Bool) (registers now : List Datum)

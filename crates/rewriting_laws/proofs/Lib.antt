@@ -18,4 +18,4 @@ pub mod RemovalLaws
 pub mod NamingLaws
 pub mod Whole
 pub mod Rewritings
-mod Instance
+mod Samples

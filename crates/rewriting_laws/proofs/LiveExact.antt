@@ -2,7 +2,7 @@
 use Rattle.std.proofs.Common.{◌≡◌, ℕ, zero, suc, ◌≤◌, ◌+◌, Bool, true, false, not, eqb, leb, ltb, List, [], ◌∷◌, length, drop, map, refl, ap, sym, arith, Some, None, Option, slice_get, inl, inr, ◌∙◌, ◌&&◌, subst}
 use Rattle.std.specs.List.{list_any, position_or_len, Contains}
 use Rattle.std.specs.Option.{option_map_or}
-use Rattle.std.proofs.lemmas.Bool.{cases_Bool, eqb-true, eq-eqb, false≢true, or_left, or_right, or_cases, and_from, and_parts, leb-true, le-leb, ltb-true, not_from_false}
+use Rattle.std.proofs.lemmas.Bool.{cases_Bool, eqb-true, eq-eqb, false≢true, or_left, or_right, or_cases, and_from, and_parts, leb-true, le-leb, ltb-true, not_from_false, not-true}
 use Rattle.std.proofs.lemmas.Option.{slice_get_within}
 use Rattle.sp_ids.specs.declared.ids.BlockId.{BlockId}
 use Rattle.ir_ast.specs.declared.types.Ty.{Ty}
@@ -12,17 +12,14 @@ use Rattle.ir_ast.specs.Insts.{Instruction}
 use Rattle.ir_ast.specs.Funcs.{Function}
 use Rattle.ir_ast.specs.Faults.PhiEdges.{is_phi}
 use Rattle.object_meaning.specs.Lines.{Line}
-use Rattle.list_laws.proofs.Places.{get_some}
+use Rattle.list_laws.proofs.Places.{get_some, drop_whole}
 use Rattle.list_laws.proofs.Contents.{contains_get, get_contained}
 use Rattle.rewriting_forms.specs.Numbered.{named, among, lines_at, gives, pointers, base_at, succs}
 use Rattle.rewriting_forms.specs.Liveness.{IsUse, IsEntry, PhisAgree, Live, used, held, later, entry, crosses, is_value, is_use, any_use, any_held, incoming, uses_entry, live_over, uses_here, live_lines, live_front, is_live}
 use Rattle.rewriting_laws.specs.Statements.{LiveIsExact}
 use Rattle.rewriting_laws.proofs.NameLemmas.{at_rest, found}
-use Rattle.rewriting_laws.proofs.LiveLaws.{any_at, drop_from, drop_all, front_enough}
-
-not_true : (t : Bool) → not t ≡ true → t ≡ false
-not_true true e = absurd (false≢true e)
-not_true false e = refl
+use Rattle.rewriting_laws.proofs.LiveLaws.{drop_from, front_enough}
+use Rattle.std.proofs.lemmas.Map.Keys.{any_passes_from_place}
 
 at_end : {A : Type 0} (xs : List A) (k : ℕ) → drop k xs ≡ [] → k ≤ length xs → k ≡ length xs
 at_end [] zero none within = refl
@@ -87,7 +84,7 @@ module _ (func : Function) (table : List Operand) (v : ℕ) where
   contains_among : (xs : List ℕ) (x : ℕ) → Contains xs x → among x xs ≡ true
   contains_among xs x has =
       let at = get_contained xs x has in
-      any_at (λ (y : ℕ). eqb y x) xs at.0 x at.1 (eq-eqb x x refl)
+      any_passes_from_place (λ (y : ℕ). eqb y x) xs at.0 x at.1 (eq-eqb x x refl)
 
   value_is : (o : Operand) → is_value v o ≡ true → o ≡ named v
   value_is (Value id) is = ap named (eqb-true id.0 v is)
@@ -122,7 +119,7 @@ module _ (func : Function) (table : List Operand) (v : ℕ) where
     | inl uses ↦
         let parts = and_parts (not (is_phi line.inst.op)) (any_use func table v line.inst.operands) uses in
         let at = any_found (is_use func table v) line.inst.operands parts.1 in
-        used b k line at.1 stands (not_true (is_phi line.inst.op) parts.0) (contains_get line.inst.operands at.0 at.1 at.2) (use_is at.1 at.3)
+        used b k line at.1 stands (not-true (is_phi line.inst.op) parts.0) (contains_get line.inst.operands at.0 at.1 at.2) (use_is at.1 at.3)
     | inr holds ↦
         let at = any_found (λ (entry : Ty × Operand). is_use func table v entry.1) line.inst.bundle holds in
         held b k line at.1.1 stands (contains_get (map (λ (entry : Ty × Operand). entry.1) line.inst.bundle) at.0 at.1.1 (mapped line.inst.bundle at.0 at.1 at.2)) (use_is at.1.1 at.3)
@@ -145,7 +142,7 @@ module _ (func : Function) (table : List Operand) (v : ℕ) where
         | inr on ↦
             let parts = and_parts (not (gives line v)) (live_lines func table v beyond lines) on in
             let below = slice_get_within (lines_at func b) k line here.0 in
-            later b k line here.0 (not_true (gives line v) parts.0) (lines_sound b beyond walk lines (suc k) here.1 (omega arith) parts.1)
+            later b k line here.0 (not-true (gives line v) parts.0) (lines_sound b beyond walk lines (suc k) here.1 (omega arith) parts.1)
       ]
 
   phi_entry : (b : ℕ) (line : Line) → option_map_or (is_use func table v) (incoming b line.inst) false ≡ true
@@ -195,7 +192,7 @@ module _ (func : Function) (table : List Operand) (v : ℕ) where
     walk_within _ _ (crosses b k to last edge walk) = omega (arith, last)
 
     any_has : {A : Type 0} (p : A → Bool) (xs : List A) (x : A) → Contains xs x → p x ≡ true → list_any p xs ≡ true
-    any_has p xs x has passes = let at = get_contained xs x has in any_at p xs at.0 x at.1 passes
+    any_has p xs x has passes = let at = get_contained xs x has in any_passes_from_place p xs at.0 x at.1 passes
 
     held_any : (entries : List (Ty × Operand)) (k : ℕ) (o : Operand) → slice_get (map (λ (entry : Ty × Operand). entry.1) entries) k ≡ Some o
         → is_use func table v o ≡ true → list_any (λ (entry : Ty × Operand). is_use func table v entry.1) entries ≡ true
@@ -232,13 +229,13 @@ module _ (func : Function) (table : List Operand) (v : ℕ) where
         and_from (is_phi phi.inst.op) (option_map_or (is_use func table v) (incoming b phi.inst) false) is_one
         (ap (λ (o : Option Operand). option_map_or (is_use func table v) o false) (incoming_from b phi.inst o (agree to place phi stands is_one) one) ∙ use_from o this) in
         ap (λ (n : ℕ). live_lines func table v (beyond b) (drop n (lines_at func b))) last
-        ∙ ap (live_lines func table v (beyond b)) (drop_all (lines_at func b))
+        ∙ ap (live_lines func table v (beyond b)) (drop_whole (lines_at func b))
         ∙ any_has (live_over func table v (live_front func table v (length func.blocks)) b) (succs func b) to edge
         (or_left (list_any (uses_entry func table v b) (lines_at func to)) (live_front func table v (length func.blocks) to)
-        (any_at (uses_entry func table v b) (lines_at func to) place phi stands here))
+        (any_passes_from_place (uses_entry func table v b) (lines_at func to) place phi stands here))
     tested _ _ (crosses b k to last edge walk) =
         ap (λ (n : ℕ). live_lines func table v (beyond b) (drop n (lines_at func b))) last
-        ∙ ap (live_lines func table v (beyond b)) (drop_all (lines_at func b))
+        ∙ ap (live_lines func table v (beyond b)) (drop_whole (lines_at func b))
         ∙ any_has (live_over func table v (live_front func table v (length func.blocks)) b) (succs func b) to edge
         (or_right (list_any (uses_entry func table v b) (lines_at func to)) (live_front func table v (length func.blocks) to)
         (front_enough func table v (suc (length func.blocks)) to (tested to 0 walk)))

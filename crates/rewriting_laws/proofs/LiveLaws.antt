@@ -6,7 +6,7 @@ use Rattle.std.proofs.lemmas.Bool.{cases_Bool, cases_eq, cases_lt, eqb-true, eq-
 use Rattle.std.proofs.lemmas.Option.{slice_get_within}
 use Rattle.std.proofs.lemmas.List.{get_or_past, length-map}
 use Rattle.std.proofs.lemmas.List.Sums.{sum_by-cons}
-use Rattle.std.proofs.lemmas.Map.Keys.{IsDistinct-cons}
+use Rattle.std.proofs.lemmas.Map.Keys.{IsDistinct-cons, any_passes_from_place}
 use Rattle.std.proofs.lemmas.Map.Steps.{length-le_from_distinct_below}
 use Rattle.sp_ids.specs.declared.ids.BlockId.{BlockId}
 use Rattle.ir_ast.specs.declared.types.Ty.{Ty}
@@ -21,18 +21,8 @@ use Rattle.rewriting_forms.specs.Liveness.{is_use, any_use, any_held, incoming, 
 use Rattle.rewriting_laws.specs.Laws.{Edge, IsClosed}
 use Rattle.rewriting_laws.proofs.NameLemmas.{line_is}
 use Rattle.rewriting_laws.proofs.VersionLaws.{no_lines}
-
-any_more : {A : Type 0} (f g : A → Bool) (xs : List A) → ((x : A) → f x ≡ true → g x ≡ true) → list_any f xs ≡ true → list_any g xs ≡ true
-any_more f g [] more is = is
-any_more f g (x ∷ xs) more is = elim (or_cases (f x) (list_any f xs) is) [
-  | inl here ↦ or_left (g x) (list_any g xs) (more x here)
-  | inr there ↦ or_right (g x) (list_any g xs) (any_more f g xs more there)
-]
-
-pub any_at : {A : Type 0} (f : A → Bool) (xs : List A) (k : ℕ) (x : A) → slice_get xs k ≡ Some x → f x ≡ true → list_any f xs ≡ true
-any_at f [] k x is passes = absurd (cc)
-any_at f (y ∷ xs) zero x is passes = let e : y ≡ x = cc in or_left (f y) (list_any f xs) (ap f e ∙ passes)
-any_at f (y ∷ xs) (suc k) x is passes = or_right (f y) (list_any f xs) (any_at f xs k x is passes)
+use Rattle.list_laws.proofs.Places.{drop_whole}
+use Rattle.list_laws.proofs.Tests.{any_weaker}
 
 any_differs : {A : Type 0} (f g : A → Bool) (xs : List A) → list_any f xs ≡ true → list_any g xs ≡ false → (x : A) × (f x ≡ true) × (g x ≡ false)
 any_differs f g [] one two = absurd (false≢true one)
@@ -64,7 +54,7 @@ module _ (func : Function) (table : List Operand) (v : ℕ) where
 
   over_more : (one other : ℕ → Bool) → ((to : ℕ) → one to ≡ true → other to ≡ true) → (b : ℕ) → over one b ≡ true → over other b ≡ true
   over_more one other more b is =
-      any_more (live_over func table v one b) (live_over func table v other b) (succs func b) (λ to here.
+      any_weaker (live_over func table v one b) (live_over func table v other b) (succs func b) (λ to here.
       elim (or_cases (list_any (uses_entry func table v b) (lines_at func to)) (one to) here) [
         | inl uses ↦ or_left (list_any (uses_entry func table v b) (lines_at func to)) (other to) uses
         | inr on ↦ or_right (list_any (uses_entry func table v b) (lines_at func to)) (other to) (more to on)
@@ -197,10 +187,6 @@ drop_from [] k x is = absurd (cc)
 drop_from (y ∷ xs) zero x is = ap (λ (z : _). z ∷ xs) (cc)
 drop_from (y ∷ xs) (suc k) x is = drop_from xs k x is
 
-pub drop_all : {A : Type 0} (xs : List A) → drop (length xs) xs ≡ []
-drop_all [] = refl
-drop_all (x ∷ xs) = drop_all xs
-
 -- an edge by its block's labels
 among_append : (x : ℕ) (xs ys : List ℕ) → among x (xs ++ ys) ≡ true → (among x xs ≡ true) ⊎ (among x ys ≡ true)
 among_append x [] ys is = inr is
@@ -273,7 +259,7 @@ module _ (func : Function) (table : List Operand) where
       in_table b (length (lines_at func b)) v
       (and_from (leb (length (lines_at func b)) (length (lines_at func b))) (live_lines func table v (beyond v b) (drop (length (lines_at func b)) (lines_at func b)))
       (le-leb (length (lines_at func b)) (length (lines_at func b)) (omega arith))
-      (ap (live_lines func table v (beyond v b)) (drop_all (lines_at func b)) ∙ is))
+      (ap (live_lines func table v (beyond v b)) (drop_whole (lines_at func b)) ∙ is))
 
   other_kept : (b k v : ℕ) → not (among v (pointers func)) ≡ true → live_table func table b k v ≡ true
   other_kept b zero v is = or_left (not (among v (pointers func))) (is_live func table b 0 v) is
@@ -295,7 +281,7 @@ module _ (func : Function) (table : List Operand) where
         (or_left (uses_here func table v line) (not (gives line v) && live_lines func table v (beyond v b) (drop (suc k) (lines_at func b)))
         (or_left (not (is_phi line.inst.op) && any_use func table v line.inst.operands) (any_held func table v line.inst)
         (and_from (not (is_phi line.inst.op)) (any_use func table v line.inst.operands) (not_from_false (is_phi line.inst.op) phi)
-        (any_at (is_use func table v) line.inst.operands place (named v) is (use_self v))))));
+        (any_passes_from_place (is_use func table v) line.inst.operands place (named v) is (use_self v))))));
     held = λ b k place v line stands is.
         in_table b k v (live_at_line b k v line stands
         (or_left (uses_here func table v line) (not (gives line v) && live_lines func table v (beyond v b) (drop (suc k) (lines_at func b)))
@@ -329,5 +315,5 @@ module _ (func : Function) (table : List Operand) where
         (ap (λ (o : Option Operand). option_map_or (is_use func table v) o false) entry ∙ use_self v) in
         end_live from v (any_among (live_over func table v (live_front func table v (length func.blocks)) from) (succs func from) to (edge_succs func from to edge)
         (or_left (list_any (uses_entry func table v from) (lines_at func to)) (live_front func table v (length func.blocks) to)
-        (any_at (uses_entry func table v from) (lines_at func to) k phi stands used)));
+        (any_passes_from_place (uses_entry func table v from) (lines_at func to) k phi stands used)));
   }

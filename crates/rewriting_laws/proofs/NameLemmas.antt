@@ -52,10 +52,6 @@ among_filter p v (x ∷ xs) is = elim (cases_Bool (p x)) [
 pub line_is : (func : Function) (b k : ℕ) (line : Line) → slice_get (lines_at func b) k ≡ Some line → line_at func b k ≡ line
 line_is func b k line stands = get_or_from_slice_get (lines_at func b) k line _ stands
 
-pub given_is : (to : Option ℕ) (v : ℕ) → is_given to v ≡ true → to ≡ Some v
-given_is None v is = absurd (false≢true is)
-given_is (Some x) v is = ap Some (eqb-true x v is)
-
 pub at_rest : {A : Type 0} (xs : List A) (k : ℕ) (x : A) (rest : List A) → drop k xs ≡ x ∷ rest → (slice_get xs k ≡ Some x) × (drop (suc k) xs ≡ rest)
 at_rest [] zero x rest is = absurd (cc)
 at_rest [] (suc k) x rest is = absurd (cc)

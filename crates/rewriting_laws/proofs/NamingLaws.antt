@@ -10,7 +10,6 @@ use Rattle.rewriting_forms.specs.Names.{joined, joins_of, least_naming, naming_o
 use Rattle.rewriting_laws.specs.Laws.{Fits, IsReached}
 use Rattle.rewriting_laws.proofs.NameTests.{tells_names}
 use Rattle.rewriting_laws.proofs.RemovalLaws.{join_inside, removal_fits}
-use Rattle.rewriting_laws.proofs.VersionLaws.{versions_fit}
 
 pub least_fits : (func : Function) (table : List Operand) → IsReached func → Fits func table (least_naming func table) (live_table func table)
 least_fits func table graph =
@@ -21,7 +20,7 @@ least_inside func table b v joins =
     join_inside func table b v (and_parts (joins_of func table b v) (same_name (joined b v) (becomes same_name (phis_of func table) (joined b v))) joins).0
 
 pub naming_fits : (func : Function) (table : List Operand) → IsReached func → Fits func table (naming_of func table) (live_table func table)
-naming_fits = versions_fit
+naming_fits = least_fits
 
 pub naming_inside : (func : Function) (table : List Operand) (b v : ℕ) → (naming_of func table).joins b v ≡ true → b < length func.blocks
-naming_inside = join_inside
+naming_inside = least_inside

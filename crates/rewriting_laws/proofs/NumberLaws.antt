@@ -14,8 +14,10 @@ use Rattle.rewriting_laws.proofs.NameTests.{same_itself}
 use Rattle.rewriting_forms.specs.Rewritten.{same_name, behind_all, place_in, line_names, joined_at, block_names, names_of}
 use Rattle.rewriting_laws.specs.Laws.{owner_of, IsNumbering}
 use Rattle.rewriting_laws.proofs.NameLemmas.{among_cons, filter_among, line_is}
-use Rattle.rewriting_laws.proofs.PlaceLaws.{place_is, get_front, get_back}
+use Rattle.rewriting_laws.proofs.PlaceLaws.{place_is, get_back}
 use Rattle.rewriting_laws.proofs.ApartLaws.{names_apart}
+use Rattle.list_laws.proofs.Ranges.{range_get}
+use Rattle.list_laws.proofs.Places.{get_front}
 
 same_owner : (x y : Name) → same_name x y ≡ true → owner_of x ≡ owner_of y
 same_owner (own v) (own w) is = ap Some (eqb-true v w is)
@@ -87,11 +89,6 @@ has_map f (x ∷ xs) v is = elim (cases_eq x v) [
   | inl e ↦ (0, ap (λ (y : ℕ). Some (f y)) e)
   | inr ne ↦ let rest = has_map f xs v (among_cons v x xs is ne) in (suc rest.0, rest.1)
 ]
-
-range_get : (from count k : ℕ) → k < count → slice_get (range_with_len from count) k ≡ Some (from + k)
-range_get from zero k below = absurd (omega arith)
-range_get from (suc count) zero below = let e : from ≡ from + 0 = omega arith in ap Some e
-range_get from (suc count) (suc k) below = let e : (from + 1) + k ≡ from + suc k = omega arith in range_get (from + 1) count k (omega arith) ∙ ap Some e
 
 map_at : (f : ℕ → Name) (xs : List ℕ) (k x : ℕ) → slice_get xs k ≡ Some x → slice_get (map f xs) k ≡ Some (f x)
 map_at f [] k x is = absurd (cc)

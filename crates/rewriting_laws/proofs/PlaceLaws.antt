@@ -19,6 +19,7 @@ use Rattle.rewriting_forms.specs.Rewritten.{Piece, piece_inst, same_name, place_
 use Rattle.rewriting_laws.specs.Related.{piece_line}
 use Rattle.rewriting_laws.proofs.NameLemmas.{at_rest, line_is, is_one, is_none, call_or_not}
 use Rattle.rewriting_laws.proofs.JumpLemmas.{one_piece}
+use Rattle.list_laws.proofs.Places.{get_front}
 
 -- the names that pieces give
 abbrev given_names : Option Name → List Name
@@ -84,11 +85,6 @@ get_back [] ys k y is = let e : 0 + k ≡ k = omega arith in ap (λ (n : ℕ). s
 get_back (x ∷ xs) ys k y is =
     let e : suc (length xs) + k ≡ suc (length xs + k) = omega arith in
     ap (λ (n : ℕ). slice_get (x ∷ (xs ++ ys)) n) e ∙ get_back xs ys k y is
-
-pub get_front : {A : Type 0} (xs ys : List A) (k : ℕ) (x : A) → slice_get xs k ≡ Some x → slice_get (xs ++ ys) k ≡ Some x
-get_front [] ys k x is = absurd (cc)
-get_front (z ∷ xs) ys zero x is = is
-get_front (z ∷ xs) ys (suc k) x is = get_front xs ys k x is
 
 -- a part of the names in the middle
 pub part_rises : (before part behind : List Name) → Apart (before ++ (part ++ behind)) → Rising (place_in (before ++ (part ++ behind))) (length before) part

@@ -23,7 +23,7 @@ use Rattle.rewriting_laws.proofs.VersionLaws.{front_is, versions_fit}
 
 -- ---- lists
 
-among_contains : (v : ℕ) (xs : List ℕ) → among v xs ≡ true → Contains xs v
+pub among_contains : (v : ℕ) (xs : List ℕ) → among v xs ≡ true → Contains xs v
 among_contains v [] has = absurd (false≢true has)
 among_contains v (x ∷ xs) has = elim (cases_eq x v) [
   | inl same ↦ rw same (contains_first v xs)
@@ -97,7 +97,7 @@ module _ (func : Function) (table : List Operand) (naming : Naming) where
 
   module _ (now : Name → Name) (solves : SolvesPhis func table naming now) where
     -- names come to the end of a block as what they become
-    names_become : (b : ℕ) (names : Names) (v k : ℕ) → names_from func table b (λ w. now (names w)) k v ≡ now (names_from func table b names k v)
+    pub names_become : (b : ℕ) (names : Names) (v k : ℕ) → names_from func table b (λ w. now (names w)) k v ≡ now (names_from func table b names k v)
     names_become b names v zero = refl
     names_become b names v (suc k) = by (gives (line_at func b k) v) (calls (line_at func b k) && among v (live_list func table b k)) (names_become b names v k)
       where

@@ -263,7 +263,7 @@ module _ (func : Function) (table : List Operand) where
       ∙ arriving_own (preds func b) (ends_within bound) v (λ p.
       own_lines p (front_within func table (joins_of func table) bound p) v (length (lines_at func p)) none (own_front bound p v none))
 
-  join_parts : (b v : ℕ) → joins_of func table b v ≡ true
+  pub join_parts : (b v : ℕ) → joins_of func table b v ≡ true
       → (is_many (preds func b) ≡ true) × (among v (pointers func) ≡ true) × (stands_in_list func table v ≡ true) × (is_live func table b 0 v ≡ true)
   join_parts b v is =
       let one = and_parts (is_many (preds func b)) (among v (pointers func) && (stands_in_list func table v && is_live func table b 0 v)) is in

@@ -26,6 +26,7 @@ use Rattle.moves_unseen.specs.Waits.{IsSound}
 use Rattle.rewritten_runs.specs.Statements.{FrontsAreSource, SeenRunsAreSource, SourcesRunOnMachine}
 use Rattle.rewritten_runs.proofs.NameLaws.{names_are_kept}
 use Rattle.runs_unseen.proofs.SeenRuns.{keeps_way, seen_here, seen_there}
+use Rattle.object_meaning.proofs.OutcomeLaws.{concat-reverse}
 
 sound_after : (content after : ModuleContent) → IsSourceModule content → All HasNoBundle content.funcs → IsRewritten content after → IsSound after
 sound_after content after source bare is = record {
@@ -70,13 +71,6 @@ seen_runs_are_source content after source is input go_line bound end func steps 
   events_are = seen.events_are;
   written = seen.written;
 }
-
-concat-reverse : (lines : List (List ℕ)) → concat (reverse lines) ≡ text_of lines
-concat-reverse [] = refl
-concat-reverse (line ∷ lines) =
-    ap concat (reverse-append (line ∷ []) lines)
-    ∙ (concat-append (reverse lines) (line ∷ [])
-    ∙ (ap (λ (text : List ℕ). text ++ (line ++ [])) (concat-reverse lines) ∙ ap (λ (more : List ℕ). text_of lines ++ more) (append-nil line)))
 
 all_lines : (lines closing : List (List ℕ)) → concat (reverse lines ++ closing) ≡ text_of lines ++ concat closing
 all_lines lines closing = concat-append (reverse lines) closing ∙ ap (λ (text : List ℕ). text ++ concat closing) (concat-reverse lines)

@@ -12,4 +12,4 @@ pub mod BasedTypes
 pub mod BasedLines
 pub mod BasedModule
 pub mod TargetLaws
-pub mod Worked
+pub mod Samples

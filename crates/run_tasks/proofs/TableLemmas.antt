@@ -7,9 +7,7 @@ use Rattle.std.proofs.lemmas.List.{length-map, map-set, map-append, get_or-set_s
 use Rattle.std.proofs.lemmas.List.Sums.{sum_by-set, sum_by_push, sum_by-cons}
 use Rattle.slab.specs.Slab.{Slab, Updates, get, slab_len}
 use Rattle.run_tasks.specs.Tables.{AreKeyed, IsKept, IsPresent, Stays, Switched, Table, found, waiting_in, vacancy}
-
-less : (a b : ℕ) → suc a < suc b → a < b
-less a b h = omega arith
+use Rattle.list_laws.proofs.Numbers.{less}
 
 apart_more : (i j : ℕ) → i ≢ j → suc i ≢ suc j
 apart_more i j ne e = ne (let same : i ≡ j = omega arith in same)

@@ -20,6 +20,7 @@ use Rattle.machine_meaning.specs.TrapLines.{closing_of}
 use Rattle.tool_report.specs.Closings.{closing_line}
 use Rattle.run_texts.specs.RunTexts.{RunWritesWith, end_lines, lines_from, no_frames, printed_by, step_lines}
 use Rattle.run_texts.specs.Statements.{BareTexts, OneText, QuietTexts, WrittenFirst}
+use Rattle.object_meaning.proofs.OutcomeLaws.{concat-reverse}
 
 -- ---- what the first steps do
 
@@ -67,13 +68,7 @@ one_text shown content map input plan bound places trace one other text other_te
 
 -- ---- without places and trace
 
-pub concat-reverse : (lines : List (List ℕ)) → concat (reverse lines) ≡ text_of lines
-concat-reverse [] = refl
-concat-reverse (line ∷ lines) =
-    ap concat (reverse-append (line ∷ []) lines) ∙ (concat-append (reverse lines) (line ∷ [])
-    ∙ (ap (λ text. text ++ (line ++ [])) (concat-reverse lines) ∙ ap (λ more. text_of lines ++ more) (append-nil line)))
-
-same_lines : (end other : End) (machine : Machine) (lines : List (List ℕ)) (last : Progress Machine)
+pub same_lines : (end other : End) (machine : Machine) (lines : List (List ℕ)) (last : Progress Machine)
     → Over end (record { state = machine; lines = lines }) ≡ Over other last → last.lines ≡ lines
 same_lines end other machine lines last is = sym (ap (λ (p : Progress Machine). p.lines) (same_over end other (record { state = machine; lines = lines }) last is).last)
 

@@ -19,19 +19,9 @@ use Rattle.machine_meaning.specs.Happenings.{ObjectMove as Move, object_move}
 use Rattle.tool_report.specs.RunLines.{place_line}
 use Rattle.run_texts.specs.RunTexts.{is_poll, layout_name, place_lines}
 use Rattle.run_traces.specs.Happenings.{kind_of}
+use Rattle.list_laws.proofs.Places.{drop_at, drop_past}
 
 -- ---- lists
-
--- an element and what follows it
-pub here : {X : Type 0} (xs : List X) (i : ℕ) (x : X) → slice_get xs i ≡ Some x → drop i xs ≡ x ∷ drop (i + 1) xs
-here xs i x is =
-    drop_more xs i x (slice_get_within xs i x is) ∙ ap (λ y. y ∷ drop (i + 1) xs) (get_or_from_slice_get xs i x x is)
-
-pub behind : {X : Type 0} (xs : List X) (i : ℕ) → slice_get xs i ≡ None → drop i xs ≡ []
-behind xs i none = elim (slice_get_cases xs i).1 [ inl found ↦ absurd (not_some (sym found.2 ∙ none)) | inr past ↦ drop_all i xs past.0 ]
-  where
-    not_some : {Y : Type 0} {y : Y} → Some y ≡ None → ⊥
-    not_some e = cc
 
 module _ {X Y : Type 0} (line : Y → List ℕ) (of : X → Y) (xs : List X) (i : ℕ) (x : X) (is : slice_get xs i ≡ Some x) where
   more_lines : concat (map line (map of (take (i + 1) xs))) ≡ concat (map line (map of (take i xs))) ++ line (of x)
@@ -44,7 +34,7 @@ module _ {X Y : Type 0} (line : Y → List ℕ) (of : X → Y) (xs : List X) (i 
 
   all_lines : concat (map line (map of xs)) ≡ concat (map line (map of (take i xs))) ++ (line (of x) ++ concat (map line (map of (drop (i + 1) xs))))
   all_lines =
-      ap (λ l. concat (map line (map of l))) (sym (take-append-drop i xs) ∙ ap (λ l. take i xs ++ l) (here xs i x is))
+      ap (λ l. concat (map line (map of l))) (sym (take-append-drop i xs) ∙ ap (λ l. take i xs ++ l) (drop_at xs i x is))
       ∙ ap (λ l. concat (map line l)) (map-append of (take i xs) (x ∷ drop (i + 1) xs))
       ∙ ap concat (map-append line (map of (take i xs)) (of x ∷ map of (drop (i + 1) xs)))
       ∙ concat-append (map line (map of (take i xs))) (line (of x) ∷ map line (map of (drop (i + 1) xs)))
@@ -87,7 +77,7 @@ pub found : {X Y : Type 0} (f : X → Y) (xs : List X) (place : ℕ) (y : Y) →
 found f xs place y is = found_in f xs place y (slice_get xs place) refl (ap (option_map f) (sym (at_number xs place)) ∙ sym is)
 
 pub missing : {X Y : Type 0} (f : X → Y) (xs : List X) (place : ℕ) → None ≡ option_map f (of_number xs (place + 1)) → drop place xs ≡ []
-missing f xs place is = behind xs place (missing_in f xs place (slice_get xs place) refl (ap (option_map f) (sym (at_number xs place)) ∙ sym is))
+missing f xs place is = drop_past xs place (missing_in f xs place (slice_get xs place) refl (ap (option_map f) (sym (at_number xs place)) ∙ sym is))
 
 no_contents : (layouts : List ObjectLayout) (stands : List Stand) → place_lines layouts stands [] ≡ []
 no_contents layouts [] = refl
@@ -118,8 +108,8 @@ module _ (layouts : List ObjectLayout) (stands : List Stand) (contents : List Co
         ≡ concat (place_lines layouts stands contents)
     rest_is =
         ap (λ (line : List ℕ). so_far.first ++ (line ++ concat (place_lines layouts (drop (place + 1) stands) (drop (place + 1) contents)))) (sym line_is)
-        ∙ ap (λ (l : List Content). so_far.first ++ concat (place_lines layouts (stand.x ∷ drop (place + 1) stands) l)) (sym (here contents place content.x content.is))
-        ∙ ap (λ (l : List Stand). so_far.first ++ concat (place_lines layouts l (drop place contents))) (sym (here stands place stand.x stand.is))
+        ∙ ap (λ (l : List Content). so_far.first ++ concat (place_lines layouts (stand.x ∷ drop (place + 1) stands) l)) (sym (drop_at contents place content.x content.is))
+        ∙ ap (λ (l : List Stand). so_far.first ++ concat (place_lines layouts l (drop place contents))) (sym (drop_at stands place stand.x stand.is))
         ∙ so_far.rest
 
     pub places_more : new ≡ append_known now (place_line (place + 1) (layout_name layouts layout) count address) → PlacesSoFar layouts stands contents (place + 1) old new
@@ -134,19 +124,12 @@ module _ (layouts : List ObjectLayout) (stands : List Stand) (contents : List Co
         AppendsFront-among old so_far.first (concat (place_lines layouts (drop (place + 1) stands) (drop (place + 1) contents))) (concat (place_lines layouts stands contents))
         so_far.written front (sym rest_is)
 
-pub places_none : (layouts : List ObjectLayout) (stands : List Stand) (contents : List Content) (old : Option (List ℕ)) → PlacesSoFar layouts stands contents 0 old old
-places_none layouts stands contents old = record { first = []; written = sym (append_known-nil old); rest = refl }
-
-pub places_begun : (layouts : List ObjectLayout) (stands : List Stand) (contents : List Content) (place : ℕ) (old now : Option (List ℕ)) → PlacesSoFar layouts stands contents place old now
-    → AppendsFront old now (concat (place_lines layouts stands contents))
-places_begun layouts stands contents place old now so_far = record { front = so_far.first; rest = concat (place_lines layouts (drop place stands) (drop place contents)); whole = sym so_far.rest; added = so_far.written }
-
 -- ---- moves
 
 module _ (moves : List Moved) (stands : List Stand) (place : ℕ) (items : List Move) (all : List Move) (address : ℕ)
     (stand : Found (λ (stand : Stand). stand.address) stands place address) (so_far : items ++ filter_map (object_move moves) (drop place stands) ≡ all) where
   opened : items ++ filter_map (object_move moves) (stand.x ∷ drop (place + 1) stands) ≡ all
-  opened = ap (λ (l : List Stand). items ++ filter_map (object_move moves) l) (sym (here stands place stand.x stand.is)) ∙ so_far
+  opened = ap (λ (l : List Stand). items ++ filter_map (object_move moves) l) (sym (drop_at stands place stand.x stand.is)) ∙ so_far
 
   pub stays : None ≡ new_address moves address → items ++ filter_map (object_move moves) (drop (place + 1) stands) ≡ all
   stays none =

@@ -18,14 +18,10 @@ use Rattle.object_meaning.specs.TargetRuns.{plain_lines, target_setting}
 use Rattle.object_meaning.specs.Texts.{bundle_line, bundle_lines, bundle_of, closing_lines}
 use Rattle.object_meaning.proofs.StandingLaws.{AllStand, FrameStands}
 use Rattle.object_meaning.proofs.TaskLists.{Each}
+use Rattle.list_laws.proofs.Contents.{all_at}
 
 abbrev IsBare : Instruction → Type 0
 IsBare inst = inst.bundle ≡ []
-
-all_get : {A : Type 0} (P : A → Type 0) (xs : List A) (place : ℕ) (x : A) → All P xs → slice_get xs place ≡ Some x → P x
-all_get P [] place x all is = cc
-all_get P (first ∷ xs) zero x all is = let same : first ≡ x = cc in subst P same (All-head P first xs all)
-all_get P (first ∷ xs) (suc place) x all is = all_get P xs place x (All-tail P first xs all) is
 
 -- ---- lines
 
@@ -35,14 +31,14 @@ block_bare func bare block = by (slice_get func.blocks block) refl
     by : (found : Option BasicBlock) → slice_get func.blocks block ≡ found → All IsBare (option_map_or (λ (one : BasicBlock). one.insts) found [])
     by None is = All-nil IsBare
     by (Some one) is =
-        all_get (λ (each : BasicBlock). All IsBare each.insts) func.blocks block one (all_flat IsBare (λ (each : BasicBlock). each.insts) func.blocks bare) is
+        all_at (λ (each : BasicBlock). All IsBare each.insts) func.blocks block one (all_flat IsBare (λ (each : BasicBlock). each.insts) func.blocks bare) is
 
 insts_bare : (content : ModuleContent) → All HasNoBundle content.funcs → (func block : ℕ) → All IsBare (insts_of content func block)
 insts_bare content bare func block = by (slice_get content.funcs func) refl
   where
     by : (found : Option Function) → slice_get content.funcs func ≡ found → All IsBare (option_map_or (λ (defined : Function). insts_in defined block) found [])
     by None is = All-nil IsBare
-    by (Some defined) is = block_bare defined (all_get HasNoBundle content.funcs func defined bare is) block
+    by (Some defined) is = block_bare defined (all_at HasNoBundle content.funcs func defined bare is) block
 
 lines_bare : (next : ℕ) (insts : List Instruction) → All IsBare insts → (behind : ℕ) → bundle_of (drop behind (plain_lines next insts)) ≡ []
 lines_bare next [] all zero = refl

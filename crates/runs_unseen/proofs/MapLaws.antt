@@ -78,15 +78,15 @@ names_nothing content address one is = by (entry_at (map_of content) address) re
 abbrev pub IsQuiet : Machinery → Type 0
 IsQuiet machinery = (address : ℕ) (one : FrameEntry) → machinery.found address ≡ Some one → deopt_places one ≡ []
 
-either_nothing : (b : Bool) (lines : List (List ℕ)) → lines ≡ [] → (if b then lines else []) ≡ []
+pub either_nothing : (b : Bool) (lines : List (List ℕ)) → lines ≡ [] → (if b then lines else []) ≡ []
 either_nothing true lines e = e
 either_nothing false lines e = refl
 
-or_nothing : (b : Bool) (lines : List (List ℕ)) → lines ≡ [] → (if b then [] else lines) ≡ []
+pub or_nothing : (b : Bool) (lines : List (List ℕ)) → lines ≡ [] → (if b then [] else lines) ≡ []
 or_nothing true lines e = refl
 or_nothing false lines e = e
 
-with_nothing : (machinery : Machinery) (stands : List Stand) (number : ℕ) (stack : List ℕ) (below : ℕ → List ℕ → List (List ℕ)) (one : FrameEntry) (name : Option (List ℕ))
+pub with_nothing : (machinery : Machinery) (stands : List Stand) (number : ℕ) (stack : List ℕ) (below : ℕ → List ℕ → List (List ℕ)) (one : FrameEntry) (name : Option (List ℕ))
     → deopt_places one ≡ [] → ((next : ℕ) (rest : List ℕ) → below next rest ≡ []) → lines_with machinery stands number stack below one name ≡ []
 with_nothing machinery stands number stack below one None bare rest = refl
 with_nothing machinery stands number stack below one (Some name) bare rest =
@@ -94,7 +94,7 @@ with_nothing machinery stands number stack below one (Some name) bare rest =
     let shown = shown_place machinery stands (take (frame_words one) stack) (pairs_in (pair_places one)) in
     ap (λ places. frame_line number name (map shown places) ++ below next others) bare ∙ rest next others
 
-at_nothing : (machinery : Machinery) (stands : List Stand) (number address : ℕ) (stack : List ℕ) (below : ℕ → List ℕ → List (List ℕ)) (found : Option FrameEntry)
+pub at_nothing : (machinery : Machinery) (stands : List Stand) (number address : ℕ) (stack : List ℕ) (below : ℕ → List ℕ → List (List ℕ)) (found : Option FrameEntry)
     → ((one : FrameEntry) → found ≡ Some one → deopt_places one ≡ []) → ((next : ℕ) (rest : List ℕ) → below next rest ≡ []) → lines_at machinery stands number address stack below found ≡ []
 at_nothing machinery stands number address stack below None bare rest = refl
 at_nothing machinery stands number address stack below (Some one) bare rest =

@@ -18,7 +18,7 @@ use Rattle.object_meaning.specs.States.{State, Setting}
 use Rattle.object_meaning.specs.TargetRuns.{TargetGives, target_setting}
 use Rattle.object_meaning.specs.Texts.{closing_lines}
 use Rattle.object_meaning.proofs.EndLaws.{IsFinal}
-use Rattle.object_meaning.proofs.OutcomeLaws.{gives_final, gives_one, gives_some}
+use Rattle.object_meaning.proofs.OutcomeLaws.{gives_final, gives_one, gives_some, concat-reverse}
 use Rattle.object_meaning.proofs.SimulationLaws.{accessing, followed, happens}
 use Rattle.stackmap_write.specs.ModuleMaps.{map_of}
 use Rattle.machine_meaning.specs.Code.{machinery_of}
@@ -43,13 +43,6 @@ use Rattle.runs_unseen.proofs.TraceLaws.{traced_mapped}
 same_lines : (one other shown other_shown : List (List ℕ)) → one ≡ other → shown ≡ [] → other_shown ≡ [] → reverse one ++ shown ≡ reverse other ++ other_shown
 same_lines one other shown other_shown same none other_none =
     ap (λ (more : List (List ℕ)). reverse one ++ more) (none ∙ sym other_none) ∙ ap (λ (all : List (List ℕ)). reverse all ++ other_shown) same
-
--- lines that stand newest first, put one by one
-concat_reverse : (lines : List (List ℕ)) → concat (reverse lines) ≡ text_of lines
-concat_reverse [] = refl
-concat_reverse (line ∷ lines) =
-    ap concat (reverse-append (line ∷ []) lines)
-    ∙ (concat-append (reverse lines) (line ∷ []) ∙ (ap (λ text. text ++ (line ++ [])) (concat_reverse lines) ∙ ap (λ more. text_of lines ++ more) (append-nil line)))
 
 module _ (content : ModuleContent) (sound : IsSound content) (input : List ℤ) (plan : List PlanLine) (bound : ℕ) where
   abbrev machinery : Machinery
@@ -138,7 +131,7 @@ module _ (content : ModuleContent) (sound : IsSound content) (input : List ℤ) 
       ap concat (sym there.1.1.lines)
       ∙ (ap (λ (outcome : MachineOutcome). concat outcome.lines) gives.is
       ∙ (ap (λ (shown : List (List ℕ)). concat (reverse gives.last.lines ++ shown)) none
-      ∙ (ap concat (append-nil (reverse gives.last.lines)) ∙ (concat_reverse gives.last.lines ∙ printed.text)))) in record {
+      ∙ (ap concat (append-nil (reverse gives.last.lines)) ∙ (concat-reverse gives.last.lines ∙ printed.text)))) in record {
         outcome = given.outcome;
         gives = given.gives;
         front = record {

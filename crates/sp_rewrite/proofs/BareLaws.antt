@@ -1,4 +1,4 @@
--- The rewriting adds no bundle: where no line of a module has one, no line of its rewritten module has.
+-- The rewriting adds no bundle: where no line of a module has all_one, no line of its rewritten module has.
 use Rattle.std.proofs.Common.{◌≡◌, ◌&&◌, ℕ, zero, suc, Bool, true, false, List, [], ◌∷◌, ◌++◌, map, refl, sym, ap, subst}
 use Rattle.std.specs.Prelude.{Option, Some, None, codes, if◌then◌else◌, length, slice_get, slice_index}
 use Rattle.std.specs.List.{All, AllZip, flat_map}
@@ -32,6 +32,7 @@ use Rattle.rewriting_forms.specs.Liveness.{live_list}
 use Rattle.rewriting_forms.specs.Rewritten.{Piece, expanded, expanded_by, group, inserted_phi, joined_at, names_of, piece_inst, pieces_of, place_in, plain, relocate_of, result_of, rewritten, rewritten_blocks, spelled, statepoint}
 use Rattle.sp_rewrite.specs.Statements.{IsRewritten}
 use Rattle.sp_rewrite.proofs.RewrittenLaws.{rewriting_is_by_function}
+use Rattle.list_laws.proofs.Contents.{all_one}
 
 abbrev IsBare : Instruction → Type 0
 IsBare inst = inst.bundle ≡ []
@@ -45,9 +46,6 @@ BlockIsBare block = All IsBare block.insts
 each : {A : Type 0} (P Q : A → Type 0) → ((x : A) → P x → Q x) → (xs : List A) → All P xs → All Q xs
 each P Q so [] all = All-nil Q
 each P Q so (x ∷ xs) all = All-cons Q x xs (so x (All-head P x xs all)) (each P Q so xs (All-tail P x xs all))
-
-one : {A : Type 0} (P : A → Type 0) (x : A) → P x → All P (x ∷ [])
-one P x holds = All-cons P x [] holds (All-nil P)
 
 either : {A : Type 0} (P : A → Type 0) (b : Bool) (xs ys : List A) → All P xs → All P ys → All P (if b then xs else ys)
 either P true xs ys first second = first
@@ -78,7 +76,7 @@ all_drop_bare (func ∷ funcs) (x ∷ after) drops bare =
 -- ---- with polls
 
 front_bare : (number : ℕ) → AreBare (front_poll number)
-front_bare zero = one IsBare poll_call refl
+front_bare zero = all_one IsBare poll_call refl
 front_bare (suc number) = All-nil IsBare
 
 placed_bare : (number : ℕ) (blocks : List BasicBlock) → All BlockIsBare blocks → All BlockIsBare (placed_from number blocks)
@@ -86,7 +84,7 @@ placed_bare number [] all = All-nil BlockIsBare
 placed_bare number (block ∷ blocks) all =
     let line : (inst : Instruction) → IsBare inst → AreBare (polled number inst) =
     λ inst none. All-append IsBare (if retreats number inst then poll_call ∷ [] else []) (inst ∷ [])
-    (either IsBare (retreats number inst) (poll_call ∷ []) [] (one IsBare poll_call refl) (All-nil IsBare)) (one IsBare inst none) in
+    (either IsBare (retreats number inst) (poll_call ∷ []) [] (all_one IsBare poll_call refl) (All-nil IsBare)) (all_one IsBare inst none) in
     All-cons BlockIsBare (placed_block number block) (placed_from (suc number) blocks)
     (All-append IsBare (front_poll number) (flat_map (polled number) block.insts) (front_bare number)
     (flat_all IsBare (polled number) block.insts (each IsBare (λ inst. AreBare (polled number inst)) line block.insts (All-head BlockIsBare block blocks all))))
@@ -97,20 +95,20 @@ placed_bare number (block ∷ blocks) all =
 module _ (given : Insertion) where
   kept_bare : (inst : Instruction) → IsBare inst → AreBare (kept_line given inst ∷ [])
   kept_bare inst none =
-      one IsBare (kept_line given inst) (ap (λ (bundle : List (Ty × Operand)). map (λ (entry : Ty × Operand). (let now : Ty × Operand = (entry.0, given.now entry.1) in now)) bundle) none)
+      all_one IsBare (kept_line given inst) (ap (λ (bundle : List (Ty × Operand)). map (λ (entry : Ty × Operand). (let now : Ty × Operand = (entry.0, given.now entry.1) in now)) bundle) none)
 
   compared_bare : (next : ℕ) (inst : Instruction) (pred : Pred) → IsBare inst → AreBare (compared given next inst pred)
-  compared_bare next inst Eq none = one IsBare (same_call given inst.result (operand_at inst 0) (operand_at inst 1)) refl
+  compared_bare next inst Eq none = all_one IsBare (same_call given inst.result (operand_at inst 0) (operand_at inst 1)) refl
   compared_bare next inst Ne none =
       All-cons IsBare (same_call given (Some (numbered_name (codes "sp.s") (given.same_rank next))) (operand_at inst 0) (operand_at inst 1)) (negation given next inst ∷ []) refl
-      (one IsBare (negation given next inst) refl)
+      (all_one IsBare (negation given next inst) refl)
   compared_bare next inst pred none = kept_bare inst none
 
   merged_bare : (next : ℕ) (inst : Instruction) → IsBare inst
       → AreBare ((if is_merge inst.op && given.uses_derived inst then base_line given next inst ∷ [] else []) ++ kept_line given inst ∷ [])
   merged_bare next inst none =
       All-append IsBare (if is_merge inst.op && given.uses_derived inst then base_line given next inst ∷ [] else []) (kept_line given inst ∷ [])
-      (either IsBare (is_merge inst.op && given.uses_derived inst) (base_line given next inst ∷ []) [] (one IsBare (base_line given next inst) refl) (All-nil IsBare)) (kept_bare inst none)
+      (either IsBare (is_merge inst.op && given.uses_derived inst) (base_line given next inst ∷ []) [] (all_one IsBare (base_line given next inst) refl) (All-nil IsBare)) (kept_bare inst none)
 
   lines_bare : (next : ℕ) (inst : Instruction) (op : Op) → IsBare inst → AreBare (lines_for given next inst op)
   lines_bare next inst Phi none = merged_bare next inst none
@@ -163,9 +161,9 @@ module _ (func : Function) (table : List Operand) (naming : Naming) (number : Na
   line_bare : (b k : ℕ) (line : Line) (op : Op) → LineIsBare line → All PieceIsBare (expanded_by func table naming number b k line op)
   line_bare b k line (Call callee types) none =
       either PieceIsBare (is_leaf callee) (plain func table naming number b k line ∷ []) (statepoint func table naming number b k callee types line.inst ∷ group func table naming number b k line)
-      (one PieceIsBare _ (rw none refl))
+      (all_one PieceIsBare _ (rw none refl))
       (All-cons PieceIsBare _ (group func table naming number b k line) (rw none refl) (group_bare b k line))
-  line_bare b k line op none = one PieceIsBare _ (rw none refl)
+  line_bare b k line op none = all_one PieceIsBare _ (rw none refl)
 
   expanded_bare : (b k : ℕ) (lines : List Line) → All LineIsBare lines → All PieceIsBare (expanded func table naming number b k lines)
   expanded_bare b k [] all = All-nil PieceIsBare

@@ -53,3 +53,12 @@ RemovalIsNoMatter = (content reached : ModuleContent) → IsSourceModule content
     → (now other : ℕ → Name → Name) → AreRemovals reached now → AreRemovals reached other
     → (input : List ℤ) (go : ℕ → Option ℕ) (bound : ℕ) (outcome : Outcome)
     → TargetGives (source_after reached now) input go bound outcome ↔ TargetGives (source_after reached other) input go bound outcome
+
+-- some removals leave no trivial phi
+abbrev pub RemovalEnds : Type 0
+RemovalEnds = (reached : ModuleContent) → (now : ℕ → Name → Name) × AreRemovals reached now × AreMinimal reached now
+
+-- and whichever phis went first, what is left then is the rewritten module
+abbrev pub RemovalEndsThere : Type 0
+RemovalEndsThere = (content reached : ModuleContent) → IsSourceModule content → ModuleDropsUnreached content reached
+    → (now : ℕ → Name → Name) → AreRemovals reached now → AreMinimal reached now → source_after reached now ≡ rewritten_source reached

@@ -2,7 +2,7 @@
 
 ghost use Rattle.sp_rewrite.specs.Before.{FunctionsAreReady};
 ghost use Rattle.sp_rewrite.specs.Relocates.{FewAreNotMany, FewOrMany};
-ghost use Rattle.sp_rewrite.specs.Removals.{RemovalIsNoMatter, RemovalKeepsAll};
+ghost use Rattle.sp_rewrite.specs.Removals.{RemovalEnds, RemovalEndsThere, RemovalIsNoMatter, RemovalKeepsAll};
 ghost use Rattle.sp_rewrite.specs.Statements.{RewritingIsByFunction, RewritingIsOne, RewritingIsTarget, RewritingIsVerified, RewritingKeepsMeaning, SourceIsRewritten};
 
 /// A source module has no more than one rewritten module.
@@ -57,4 +57,11 @@ pub fn removal_keeps_all()
 /// So one removal more or less is of no matter.
 pub fn removal_is_no_matter()
     ensures { RemovalIsNoMatter }
+{}
+
+/// The law that the rewritten module has no trivial phi, and that the order of removal doesn't matter: trivial phis can be removed until
+/// none is left, and whichever went first, what is left then is the rewritten module.
+pub fn removal_ends_there()
+    ensures ends { RemovalEnds }
+    ensures there { RemovalEndsThere }
 {}

@@ -168,6 +168,3 @@ nothing_is_longest bs = record { within = omega arith; passes = refl; longest = 
 -- a token of its kind by the bytes that follow its first one
 pub front-mark : (b : ℕ) (bs : List ℕ) → b < 256 → is_mark b ≡ true → Some (Punct, 1) ≡ front_of (b ∷ bs)
 front-mark b bs small mark = sym (front-by b Punct is_nothing bs 0 (mark_kind b small mark) (nothing_is_longest bs))
-
-pub one_more : (len : ℕ) → 1 + len ≡ suc len
-one_more len = omega arith

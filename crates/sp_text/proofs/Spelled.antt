@@ -14,9 +14,10 @@ use Rattle.sp_text.specs.declared.tokens.Kind.{Kind}
 use Rattle.sp_text.specs.declared.tokens.Kind.TheVariants.{Word, Local, Global, Number, Quoted, Hash, Bang, Punct}
 use Rattle.sp_text.proofs.Runs.{longest-cons, run_is_longest}
 use Rattle.sp_text.proofs.FrontLemmas.{name-zero, name-digits, name-plain, digits-all, bang-digits, bang-plain}
-use Rattle.sp_text.proofs.KindLemmas.{apart, front-by, local_kind, global_kind, signed_kind, quoted_kind, hash_kind, bang_kind, ellipsis_kind, digit_kind, word_kind, mark_kind, nothing_is_longest, one_more}
+use Rattle.sp_text.proofs.KindLemmas.{apart, front-by, local_kind, global_kind, signed_kind, quoted_kind, hash_kind, bang_kind, ellipsis_kind, digit_kind, word_kind, mark_kind, nothing_is_longest}
 use Rattle.sp_text.proofs.LineLemmas.{label-some}
 use Rattle.sp_text.proofs.TokenLemmas.{front_of-some, tokens-some}
+use Rattle.list_laws.proofs.Numbers.{after_one}
 
 -- the list begins with no byte that passes
 abbrev pub stops : (ℕ → Bool) → List ℕ → Bool
@@ -39,7 +40,7 @@ prefix_len-stops p [] [] all stop = refl
 prefix_len-stops p [] (b ∷ rest) all stop = let no : p b ≡ false = not-true (p b) stop in rw no refl
 prefix_len-stops p (x ∷ xs) rest all stop =
     let both = and_parts (p x) (list_all p xs) all in
-    rw (both.0, prefix_len-stops p xs rest both.1 stop) (one_more (length xs))
+    rw (both.0, prefix_len-stops p xs rest both.1 stop) (after_one (length xs))
 
 digit_in_name : (rest : List ℕ) → stops in_name rest ≡ true → stops is_ascii_digit rest ≡ true
 digit_in_name [] stop = refl

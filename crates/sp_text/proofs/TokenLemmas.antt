@@ -8,7 +8,7 @@ use Rattle.sp_text.specs.Bytes.{is_blank, after_blanks, semicolon}
 use Rattle.sp_text.specs.Tokens.{is_token, kinds, kind_of, longest_front, or_shorter, front_of, front_and_more, tok, bad, tokens_after, tokens}
 use Rattle.sp_text.specs.declared.tokens.Kind.{Kind}
 use Rattle.sp_text.specs.declared.tokens.Kind.TheVariants.{Word, Local, Global, Number, Quoted, Hash, Bang, Punct}
-use Rattle.sp_text.proofs.KindLemmas.{one_more}
+use Rattle.list_laws.proofs.Numbers.{after_one}
 
 -- what the longest front is
 
@@ -97,7 +97,7 @@ tokens-after_blanks [] = refl
 tokens-after_blanks (b ∷ bs) = by (is_blank b) refl (tokens-after_blanks bs)
   where
     by : (v : Bool) → is_blank b ≡ v → tokens_after 0 bs ≡ tokens_after 0 (after_blanks bs) → tokens_after 0 (b ∷ bs) ≡ tokens_after 0 (drop (cond v (1 + prefix_len is_blank bs) 0) (b ∷ bs))
-    by true is later = let e : 1 + prefix_len is_blank bs ≡ suc (prefix_len is_blank bs) = one_more _ in rw e (rw is later)
+    by true is later = let e : 1 + prefix_len is_blank bs ≡ suc (prefix_len is_blank bs) = after_one _ in rw e (rw is later)
     by false is later = refl
 
 -- the first byte after blanks is none
@@ -106,7 +106,7 @@ after_blanks-first [] b rest e = cc
 after_blanks-first (c ∷ cs) b rest e = by (is_blank c) refl (after_blanks-first cs b rest) e
   where
     by : (v : Bool) → is_blank c ≡ v → (after_blanks cs ≡ b ∷ rest → is_blank b ≡ false) → drop (cond v (1 + prefix_len is_blank cs) 0) (c ∷ cs) ≡ b ∷ rest → is_blank b ≡ false
-    by true is later e = later (rw (one_more (prefix_len is_blank cs)) at e)
+    by true is later e = later (rw (after_one (prefix_len is_blank cs)) at e)
     by false is later e = let same : c ≡ b = cc in rw (← same) is
 
 pub tokens_after-drop : (skip : ℕ) (bs : List ℕ) → tokens_after skip bs ≡ tokens (drop skip bs)

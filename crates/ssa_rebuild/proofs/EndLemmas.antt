@@ -27,11 +27,11 @@ phis_pass : (preds : List BlockId) (writing : Writing) (values : List ValueId) �
 phis_pass preds writing [] = refl
 phis_pass preds writing (value ∷ values) = phis_pass preds (phi_after preds writing) values
 
-relocates_pass : (token count rank : ℕ) (relocates : List Relocate) → list_all passes_by (relocate_lines token count rank relocates) ≡ true
+pub relocates_pass : (token count rank : ℕ) (relocates : List Relocate) → list_all passes_by (relocate_lines token count rank relocates) ≡ true
 relocates_pass token count rank [] = refl
 relocates_pass token count rank (relocate ∷ relocates) = relocates_pass token (suc count) (suc rank) relocates
 
-results_pass : (token : ℕ) (ty : Ty) (named : Option (List ℕ)) (rest : List Instruction) → list_all passes_by rest ≡ true
+pub results_pass : (token : ℕ) (ty : Ty) (named : Option (List ℕ)) (rest : List Instruction) → list_all passes_by rest ≡ true
     → list_all passes_by (result_lines token ty named ++ rest) ≡ true
 results_pass token ty None rest all = all
 results_pass token ty (Some name) rest all = all

@@ -17,7 +17,7 @@ use Rattle.ir_ast.specs.Blocks.{BasicBlock}
 use Rattle.ir_ast.specs.Funcs.{Function, instructions_of}
 use Rattle.ir_ast.specs.Types.{is_pointer}
 use Rattle.ir_ast.specs.Values.{definitions_of, definition_type, value_types, argument, outcome}
-use Rattle.ir_ast.specs.Operands.{value_in, values_used}
+use Rattle.ir_ast.specs.Operands.{value_in, values_used, valued}
 use Rattle.ir_ast.specs.Faults.PhiEdges.{is_phi}
 use Rattle.ir_ast.specs.Faults.UnknownName.{NamesOfFunction, LocalNamesAreKnown}
 use Rattle.object_meaning.specs.Lines.{Line, numbered, after_all, first_registers, registers_of, insts_in}
@@ -26,12 +26,12 @@ use Rattle.rewriting_forms.specs.Names.{Naming}
 use Rattle.rewriting_forms.specs.Rewritten.{joined_at}
 use Rattle.rewriting_laws.proofs.NameLemmas.{among_filter, among_cons, among_here, among_there}
 use Rattle.live_sets.proofs.UseLemmas.{line_back, given_between}
-use Rattle.ssa_rebuild.specs.Rows.{AreKnown, held_in, own_uses, entries_for, phi_entries, inserted_entries, entries_into, entries_from, valued}
+use Rattle.ssa_rebuild.specs.Rows.{AreKnown, held_in, own_uses, entries_for, phi_entries, inserted_entries, entries_into, entries_from}
 use Rattle.ssa_rebuild.proofs.TaskLaws.{results, after_is, first_next}
 
 -- ---- how many values there are
 
-results_append : (one other : List Instruction) → results (one ++ other) ≡ results one + results other
+pub results_append : (one other : List Instruction) → results (one ++ other) ≡ results one + results other
 results_append one other =
     ap length (filter-append (λ (inst : Instruction). is_some inst.result) one other)
     ∙ length-append (filter (λ (inst : Instruction). is_some inst.result) one) (filter (λ (inst : Instruction). is_some inst.result) other)

@@ -13,7 +13,7 @@ use Rattle.rewriting_forms.specs.Rewritten.{line_names, joined_at}
 use Rattle.rewriting_laws.proofs.NameLemmas.{at_rest}
 use Rattle.version_walk.specs.declared.slots.Slot.{Slot}
 use Rattle.version_walk.specs.declared.slots.Slot.TheVariants.{Token}
-use Rattle.ssa_rebuild.specs.Rows.{use_slot, give_slot, uses_of, held_in, own_slots, own_uses, plain_slots, call_slots, line_slots, lines_slots, use_numbers, number_at, line_numbers, lines_numbers}
+use Rattle.ssa_rebuild.specs.Rows.{use_slot, give_slot, uses_of, held_in, own_slots, own_uses, plain_slots, call_slots, line_slots, lines_slots, use_numbers, number_at, line_numbers, lines_numbers, body_numbers}
 use Rattle.ssa_rebuild.proofs.StartLaws.{plain_names_are, call_names_are}
 
 append_long : (one ones : List Slot) (other others : List ℕ) → length one ≡ length other → length ones ≡ length others → length (one ++ ones) ≡ length (other ++ others)
@@ -94,7 +94,7 @@ module _ (func : Function) (table : List Operand) (naming : Naming) (number : Na
   -- the slots before a block's entries are as many as their numbers
   pub body_long : (b : ℕ)
       → length (map give_slot (joined_at func naming b) ++ lines_slots func table b 0 (lines_at func b))
-      ≡ length (map number (map (joined b) (joined_at func naming b)) ++ lines_numbers func table naming number b 0 (lines_at func b))
+      ≡ length (body_numbers func table naming number b)
   body_long b =
       append_long (map give_slot (joined_at func naming b)) (lines_slots func table b 0 (lines_at func b)) (map number (map (joined b) (joined_at func naming b)))
       (lines_numbers func table naming number b 0 (lines_at func b)) (gives_long number (joined b) (joined_at func naming b)) (lines_long b 0 (lines_at func b) refl)

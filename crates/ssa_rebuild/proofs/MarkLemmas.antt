@@ -11,26 +11,14 @@ use Rattle.rewriting_forms.specs.Liveness.{live_list, lists_from, live_lists}
 use Rattle.rewriting_forms.specs.Names.{listed, stands_in_list}
 use Rattle.rewriting_laws.proofs.NameLemmas.{line_is, at_rest}
 use Rattle.ssa_rebuild.specs.Marks.{MarksMore}
-
-or_swap : (s t u : Bool) → (t || (s || u)) ≡ ((s || t) || u)
-or_swap true true u = refl
-or_swap true false u = refl
-or_swap false true u = refl
-or_swap false false u = refl
+use Rattle.list_laws.proofs.Booleans.{or_false, or_assoc, or_turn as or_swap}
+use Rattle.list_laws.proofs.Tests.{any_append, any_same}
 
 or_turn : (s t : Bool) → (s || t) ≡ (t || s)
 or_turn true true = refl
 or_turn true false = refl
 or_turn false true = refl
 or_turn false false = refl
-
-or_assoc : (s t u : Bool) → ((s || t) || u) ≡ (s || (t || u))
-or_assoc true t u = refl
-or_assoc false t u = refl
-
-or_none : (t : Bool) → (t || false) ≡ t
-or_none true = refl
-or_none false = refl
 
 pub push_same : (marks : List Bool) (v : ℕ) → get_or (marks ++ false ∷ []) v false ≡ get_or marks v false
 push_same [] zero = refl
@@ -60,12 +48,8 @@ marks_set old now place within same = record {
   ];
 }
 
-pub any_append : {A : Type 0} (p : A → Bool) (one other : List A) → list_any p (one ++ other) ≡ (list_any p one || list_any p other)
-any_append p [] other = refl
-any_append p (x ∷ one) other = ap (λ (t : Bool). p x || t) (any_append p one other) ∙ sym (or_assoc (p x) (list_any p one) (list_any p other))
-
 pub any_push : {A : Type 0} (p : A → Bool) (xs : List A) (x : A) → list_any p (xs ++ x ∷ []) ≡ (list_any p xs || p x)
-any_push p xs x = any_append p xs (x ∷ []) ∙ ap (λ (t : Bool). list_any p xs || t) (or_none (p x))
+any_push p xs x = any_append p xs (x ∷ []) ∙ ap (λ (t : Bool). list_any p xs || t) (or_false (p x))
 
 -- one list more
 pub listed_more : (v : ℕ) (lists more : List (List ℕ)) (list : List ℕ) (old new : List Bool) → more ≡ lists ++ list ∷ []
@@ -77,10 +61,6 @@ listed_more v lists more list old new is so_far added =
 any_flat : {A B : Type 0} (p : B → Bool) (f : A → List B) (xs : List A) → list_any p (flat_map f xs) ≡ list_any (λ x. list_any p (f x)) xs
 any_flat p f [] = refl
 any_flat p f (x ∷ xs) = any_append p (f x) (flat_map f xs) ∙ ap (λ (t : Bool). list_any p (f x) || t) (any_flat p f xs)
-
-any_same : {A : Type 0} (p q : A → Bool) (xs : List A) → ((x : A) → p x ≡ q x) → list_any p xs ≡ list_any q xs
-any_same p q [] same = refl
-any_same p q (x ∷ xs) same = ap (λ (t : Bool). t || list_any p xs) (same x) ∙ ap (λ (t : Bool). q x || t) (any_same p q xs same)
 
 module _ (func : Function) (table : List Operand) (v : ℕ) where
   lists_any : (b k : ℕ) (lines : List Line) → drop k (lines_at func b) ≡ lines

@@ -1,5 +1,5 @@
 -- The slots of a block are answered by the numbers of the versions that stand there.
-use Rattle.std.proofs.Common.{◌≡◌, ◌∙◌, ℕ, suc, ◌<◌, ◌+◌, inl, inr, Bool, true, false, if◌then◌else◌, List, [], ◌∷◌, ◌++◌, length, map, drop, Option, Some, None, slice_get, refl, ap, sym, arith, subst, append-nil}
+use Rattle.std.proofs.Common.{◌≡◌, ◌∙◌, ℕ, suc, ◌<◌, ◌+◌, inl, inr, Bool, true, false, if◌then◌else◌, List, [], ◌∷◌, ◌++◌, length, map, drop, Option, Some, None, slice_get, refl, ap, sym, arith, subst, append_assoc, append-nil}
 use Rattle.std.specs.Prelude.{slice_index}
 use Rattle.std.specs.List.{flat_map, range_with_len}
 use Rattle.std.specs.Option.{option_map_or}
@@ -11,7 +11,7 @@ use Rattle.ir_ast.specs.Funcs.{Function}
 use Rattle.object_meaning.specs.Lines.{Line}
 use Rattle.rewriting_forms.specs.Numbered.{among, lines_at, calls, pointers}
 use Rattle.rewriting_forms.specs.Liveness.{live_list}
-use Rattle.rewriting_forms.specs.Names.{Name, own, relocated, joined, token, Names, Naming, names_at, names_at_end, naming_of}
+use Rattle.rewriting_forms.specs.Names.{Name, own, relocated, joined, token, Names, Naming, names_at, names_at_end, full_naming}
 use Rattle.rewriting_forms.specs.Rewritten.{line_names, joined_at, names_of, place_in}
 use Rattle.rewriting_laws.specs.Laws.{IsReached}
 use Rattle.rewriting_laws.proofs.NameLemmas.{line_is, at_rest, among_here, among_there}
@@ -203,10 +203,10 @@ module _ (func : Function) (table : List Operand) (graph : IsReached func) (coun
     (listed : (b k v : ℕ) → among v (live_list func table b k) ≡ true → v < count)
     (uses_inside : (b k : ℕ) (line : Line) → slice_get (lines_at func b) k ≡ Some line
     → AreKnown count line.inst.operands × AreKnown count (own_uses line.inst) × AreKnown count (held_in line.inst.bundle))
-    (entries_inside : (b : ℕ) → b < length func.blocks → AreKnown count (entries_from func (naming_of func table) b))
+    (entries_inside : (b : ℕ) → b < length func.blocks → AreKnown count (entries_from func (full_naming func table) b))
   where
     abbrev naming : Naming
-    naming = naming_of func table
+    naming = full_naming func table
 
     abbrev number : Name → ℕ
     number = place_in (names_of func table naming)
@@ -242,3 +242,4 @@ module _ (func : Function) (table : List Operand) (graph : IsReached func) (coun
         (lines_answered func table naming number count pointers_inside results_inside listed uses_inside b 0 body (lines_at func b) (current_behind current start first) refl rises front)
         ∙ ap (λ (ss : List Slot). map Number twos ++ ss) last)
         ∙ sym (both_mapped ones (twos ++ threes) ∙ ap (λ (ss : List Slot). map Number ones ++ ss) (both_mapped twos threes))
+        ∙ ap (map Number) (sym (append_assoc ones twos threes))

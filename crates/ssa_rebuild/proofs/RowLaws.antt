@@ -19,12 +19,10 @@ use Rattle.rewriting_forms.specs.Names.{Naming}
 use Rattle.rewriting_forms.specs.Rewritten.{joined_at}
 use Rattle.rewriting_laws.proofs.NameLemmas.{at_rest}
 use Rattle.statepoint_insert.specs.Calls.{calls_in, calls_before}
-use Rattle.statepoint_insert.proofs.CallLaws.{call_list}
+use Rattle.statepoint_insert.proofs.CallLaws.{call_list, count_cons}
 use Rattle.version_walk.specs.declared.slots.Slot.{Slot}
 use Rattle.ssa_rebuild.specs.Rows.{give_slot, plain_slots, call_slots, lines_slots, listed_slots, count_of_call, calls_of, body_rows, phi_entries, inserted_entries, entries_into, entries_all}
-
-count_cons : (line : Line) (lines : List Line) → count_by calls (line ∷ lines) ≡ cond (calls line) 1 0 + count_by calls lines
-count_cons line lines = sum_by-cons (λ (l : Line). cond (calls l) 1 0) line lines
+use Rattle.list_laws.proofs.Ranges.{range_more}
 
 pub count_more : (lines : List Line) (k : ℕ) (line : Line) → slice_get lines k ≡ Some line → count_by calls (take (suc k) lines) ≡ count_by calls (take k lines) + count_of_call line
 count_more [] k line is = absurd (cc)
@@ -45,13 +43,6 @@ calls_of_is call (line ∷ lines) =
     let rest = calls_of_is (call + count_of_call line) lines in
     let one = count_cons line lines in
     omega (arith, rest, one)
-
-pub range_more : (a n : ℕ) → range_with_len a (n + 1) ≡ range_with_len a n ++ (a + n) ∷ []
-range_more a zero = let e : a ≡ a + 0 = omega arith in ap (λ (m : ℕ). let xs : List ℕ = m ∷ [] in xs) e
-range_more a (suc n) =
-    let s : suc n + 1 ≡ suc (n + 1) = omega arith in
-    let e : (a + 1) + n ≡ a + suc n = omega arith in
-    rw s (ap (λ (xs : List ℕ). a ∷ xs) (range_more (a + 1) n ∙ ap (λ (m : ℕ). range_with_len (a + 1) n ++ m ∷ []) e))
 
 sum_append : (f : ℕ → ℕ) (xs : List ℕ) (x : ℕ) → sum_by f (xs ++ x ∷ []) ≡ sum_by f xs + f x
 sum_append f [] x = (let one = sum_by-cons f x [] in omega (arith, one))

@@ -22,8 +22,10 @@ use Rattle.version_walk.specs.declared.slots.Slot.{Slot}
 use Rattle.version_walk.specs.declared.slots.Slot.TheVariants.{Use}
 use Rattle.version_walk.specs.Slots.{next_behind}
 use Rattle.version_walk.specs.Forest.{list_at}
-use Rattle.ssa_rebuild.specs.Rows.{valued, values_in, held_in, uses_of, one_slots, listed_slots, count_of_call, calls_of, entries_for, inserted_entries, Grows, give_slot, body_rows, owns, starts_of, all_owns, slots_in, entries_all, phi_entries}
+use Rattle.ssa_rebuild.specs.Rows.{held_in, uses_of, one_slots, listed_slots, count_of_call, calls_of, entries_for, inserted_entries, Grows, give_slot, body_rows, owns, starts_of, all_owns, slots_in, entries_all, phi_entries}
 use Rattle.version_walk.proofs.ForestLemmas.{at_same, at_other, list_is}
+use Rattle.ir_ast.specs.Operands.{valued}
+use Rattle.statepoint_insert.specs.Groups.{numbers_in}
 
 -- ---- lists that are joined
 
@@ -128,9 +130,6 @@ entries_short from (suc n) (l ∷ labels) (o ∷ operands) (inr le) = ap (λ (os
 
 -- ---- one more
 
-pub take_item : {A : Type 0} (xs : List A) (k : ℕ) (x : A) → k < length xs → x ≡ get_or xs k x → take (k + 1) xs ≡ take k xs ++ x ∷ []
-take_item xs k x below is = take_more xs k x below ∙ ap (λ (y : _). take k xs ++ y ∷ []) (sym is)
-
 pub inserted_more : (from : ℕ) (preds : List BlockId) (k v : ℕ) (label : BlockId) → take (k + 1) preds ≡ take k preds ++ label ∷ []
     → inserted_entries from (map (λ block. block.0) (take (k + 1) preds)) v
     ≡ inserted_entries from (map (λ block. block.0) (take k preds)) v ++ (if eqb label.0 from then Value (valued v) ∷ [] else [])
@@ -140,8 +139,8 @@ inserted_more from preds k v label is =
     (ap (map f) is ∙ map-append f (take k preds) (label ∷ []))
 
 pub joined_more : (from : ℕ) (preds : List ℕ) (joined : List ValueId) (k : ℕ) (value : ValueId) → take (k + 1) joined ≡ take k joined ++ value ∷ []
-    → flat_map (inserted_entries from preds) (values_in (take (k + 1) joined))
-    ≡ flat_map (inserted_entries from preds) (values_in (take k joined)) ++ inserted_entries from preds value.0
+    → flat_map (inserted_entries from preds) (numbers_in (take (k + 1) joined))
+    ≡ flat_map (inserted_entries from preds) (numbers_in (take k joined)) ++ inserted_entries from preds value.0
 joined_more from preds joined k value is =
     let f : ValueId → ℕ = λ value. value.0 in
     flat_more (inserted_entries from preds) (map f (take k joined)) (map f (take (k + 1) joined)) value.0
@@ -180,9 +179,6 @@ calls_on call next insts rest inst all to call' next' split to_is call_is next_i
 
 pub one_call : (line : Line) → count_of_call line ≤ 1
 one_call line = elim (cases_Bool (calls line)) [ inl is ↦ rw is (omega arith) | inr not ↦ rw not (omega arith) ]
-
-pub following_le : (next : ℕ) (inst : Instruction) → following next inst ≤ next + 1
-following_le next inst = elim (cases_Bool (is_some inst.result)) [ inl is ↦ rw is (omega arith) | inr not ↦ rw not (omega arith) ]
 
 -- ---- rows, one on
 
@@ -251,10 +247,10 @@ pub bodies_start : (lists joins : List (List ℕ)) (blocks : List BasicBlock) (a
 bodies_start lists joins blocks args count rows count_is none = rw (count_is, none) refl
 
 pub joins_split : (joins : List (Vec ValueId)) (place k : ℕ) (join : Vec ValueId) → place ≡ k → k < length joins → join ≡ get_or joins place join
-    → drop k (map (λ join. values_in join.items) joins) ≡ values_in join.items ∷ drop (k + 1) (map (λ join. values_in join.items) joins)
+    → drop k (map (λ join. numbers_in join.items) joins) ≡ numbers_in join.items ∷ drop (k + 1) (map (λ join. numbers_in join.items) joins)
 joins_split joins place k join same within is =
     let stands : slice_get joins k ≡ Some join = slice_get-get_or joins k join within ∙ ap Some (sym (is ∙ ap (λ (n : ℕ). get_or joins n join) same)) in
-    drop_at (map (λ join. values_in join.items) joins) k (values_in join.items) (get_map (λ join. values_in join.items) joins k join stands)
+    drop_at (map (λ join. numbers_in join.items) joins) k (numbers_in join.items) (get_map (λ join. numbers_in join.items) joins k join stands)
 
 pub entries_on : (before : ℕ → List ℕ) (joins : List (List ℕ)) (to : ℕ) (blocks : List BasicBlock) (k from : ℕ) (join : List ℕ) (block : BasicBlock)
     → slice_get joins k ≡ Some join → slice_get blocks k ≡ Some block

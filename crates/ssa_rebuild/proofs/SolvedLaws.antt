@@ -13,29 +13,25 @@ use Rattle.ir_ast.specs.Funcs.{Function}
 use Rattle.ir_ast.specs.Formed.{IsFormed}
 use Rattle.rewriting_forms.specs.Numbered.{among, lines_at, pointers, preds}
 use Rattle.rewriting_forms.specs.Liveness.{live_list, live_lists}
-use Rattle.rewriting_forms.specs.Names.{own, Naming, joins_of, naming_of}
+use Rattle.rewriting_forms.specs.Names.{own, Naming, joins_of, full_naming}
 use Rattle.rewriting_forms.specs.Rewritten.{joined_at, names_of, place_in}
 use Rattle.rewriting_laws.specs.Laws.{IsReached}
 use Rattle.rewriting_laws.proofs.NameLemmas.{among_filter}
-use Rattle.statepoint_insert.specs.Groups.{GroupContent, relocate_in, group_of, groups_of}
+use Rattle.statepoint_insert.specs.Groups.{GroupContent, relocate_in, group_of, groups_of, numbers_in}
 use Rattle.live_sets.specs.Joins.{AreJoins}
-use Rattle.live_sets.specs.Values.{valued as value_id}
+use Rattle.ir_ast.specs.Operands.{valued as value_id}
 use Rattle.version_walk.specs.declared.slots.Slot.{Slot}
 use Rattle.version_walk.specs.Slots.{answered}
 use Rattle.version_walk.specs.Forest.{list_at}
 use Rattle.version_walk.specs.Walks.{AreAnswered}
-use Rattle.ssa_rebuild.specs.Rows.{give_slot, uses_of, lines_slots, block_slots, start_of, group_list, values_in, body_rows, Grows, entries_all, entries_from, starts_of, all_owns, slots_in, only, only_preds}
+use Rattle.ssa_rebuild.specs.Rows.{give_slot, uses_of, lines_slots, block_slots, start_of, group_list, body_rows, Grows, entries_all, entries_from, starts_of, all_owns, slots_in, only, only_preds}
 use Rattle.ssa_rebuild.specs.Solved.{AreNumbered}
 use Rattle.ssa_rebuild.proofs.VersionLemmas.{Shows, IsTask, begins_shows, reached_begins}
 use Rattle.ssa_rebuild.proofs.OutputLemmas.{block_answered}
 use Rattle.ssa_rebuild.proofs.RowLaws.{rows_from, entries_are}
 use Rattle.ssa_rebuild.proofs.TaskLaws.{starts_are, own_shows, first_zero}
 use Rattle.ssa_rebuild.proofs.InsideLaws.{count, pointers_inside, results_inside, uses_inside, entries_inside}
-
-range_get : (from n k : ℕ) → k < n → slice_get (range_with_len from n) k ≡ Some (from + k)
-range_get from zero k below = absurd (omega arith)
-range_get from (suc n) zero below = let e : from ≡ from + 0 = omega arith in ap Some e
-range_get from (suc n) (suc k) below = let e : (from + 1) + k ≡ from + suc k = omega arith in range_get (from + 1) n k (omega arith) ∙ ap Some e
+use Rattle.list_laws.proofs.Ranges.{range_get}
 
 listed_back : (table : List Operand) (list part : List ℕ) → map (λ relocate. relocate.value.0) (map (relocate_in table list) part) ≡ part
 listed_back table list [] = refl
@@ -45,7 +41,7 @@ pub lists_back : (table : List Operand) (lists : List (List ℕ)) → map group_
 lists_back table [] = refl
 lists_back table (list ∷ lists) = ap (λ (l : List ℕ). l ∷ map group_list (map (group_of table) lists)) (listed_back table list list) ∙ ap (λ (ls : List (List ℕ)). list ∷ ls) (lists_back table lists)
 
-pub values_back : (vs : List ℕ) → values_in (map value_id vs) ≡ vs
+pub values_back : (vs : List ℕ) → numbers_in (map value_id vs) ≡ vs
 values_back [] = refl
 values_back (v ∷ vs) = ap (λ (ws : List ℕ). v ∷ ws) (values_back vs)
 
@@ -57,7 +53,7 @@ at_slots (r ∷ rows) (suc b) row is = at_slots rows b row is
 slots_at : (rows : List (Vec Slot)) (b : ℕ) (row : List Slot) → slice_get (slots_in rows) b ≡ Some row → row ≡ list_at rows b
 slots_at rows b row is = sym (at_slots rows b row is)
 
-pub join_at : (joins : List (Vec ValueId)) (b : ℕ) → b < length joins → slice_get (map (λ join. values_in join.items) joins) b ≡ Some (values_in (list_at joins b))
+pub join_at : (joins : List (Vec ValueId)) (b : ℕ) → b < length joins → slice_get (map (λ join. numbers_in join.items) joins) b ≡ Some (numbers_in (list_at joins b))
 join_at [] b below = absurd (omega arith)
 join_at (join ∷ joins) zero below = refl
 join_at (join ∷ joins) (suc b) below = join_at joins b (omega arith)
@@ -65,24 +61,24 @@ join_at (join ∷ joins) (suc b) below = join_at joins b (omega arith)
 module _ (func : Function) (table : List Operand) (formed : IsFormed func) (graph : IsReached func) (joins : List (Vec ValueId)) (bodies rows answers : List (Vec Slot))
     (parents : List (Option ℕ)) (starts owned : List ℕ) (groups : List GroupContent)
     (groups_are : groups ≡ groups_of func table) (joins_are : AreJoins func table joins)
-    (bodies_are : slots_in bodies ≡ body_rows (map group_list groups) (map (λ join. values_in join.items) joins) 0 (length func.args) func.blocks)
+    (bodies_are : slots_in bodies ≡ body_rows (map group_list groups) (map (λ join. numbers_in join.items) joins) 0 (length func.args) func.blocks)
     (bodies_whole : length bodies ≡ length func.blocks)
-    (rows_are : Grows bodies rows (entries_all (preds func) (map (λ join. values_in join.items) joins) 0 func.blocks))
+    (rows_are : Grows bodies rows (entries_all (preds func) (map (λ join. numbers_in join.items) joins) 0 func.blocks))
     (parents_are : parents ≡ only_preds func)
     (starts_is : starts ≡ starts_of (length func.args) (slots_in rows))
     (owned_is : owned ≡ range_with_len 0 (length func.args) ++ all_owns (length func.args) (slots_in rows))
     (answers_are : AreAnswered parents (record { starts = starts; own = owned; rows = rows }) answers)
   where
     abbrev naming : Naming
-    naming = naming_of func table
+    naming = full_naming func table
 
     abbrev joined_lists : List (List ℕ)
-    joined_lists = map (λ join. values_in join.items) joins
+    joined_lists = map (λ join. numbers_in join.items) joins
 
     joined_is : (b : ℕ) → b < length func.blocks → slice_get joined_lists b ≡ Some (joined_at func naming b)
     joined_is b below =
         let w = joins_are.whole in
-        join_at joins b (omega (arith, w, below)) ∙ ap (λ (vs : List ValueId). Some (values_in vs)) (joins_are.each b below)
+        join_at joins b (omega (arith, w, below)) ∙ ap (λ (vs : List ValueId). Some (numbers_in vs)) (joins_are.each b below)
         ∙ ap Some (values_back (filter (joins_of func table b) (pointers func)))
 
     body_is : (b : ℕ) → b < length func.blocks → list_at bodies b ≡ map give_slot (joined_at func naming b) ++ lines_slots func table b 0 (lines_at func b)
@@ -100,7 +96,7 @@ module _ (func : Function) (table : List Operand) (formed : IsFormed func) (grap
     row_is : (b : ℕ) → b < length func.blocks → list_at rows b ≡ block_slots func table naming b
     row_is b below =
         let w = joins_are.whole in
-        let long = length-map joins (λ join. values_in join.items) in
+        let long = length-map joins (λ join. numbers_in join.items) in
         let entries : entries_all (preds func) joined_lists 0 func.blocks b ≡ entries_from func naming b =
         entries_are func naming b joined_lists (length func.blocks) 0 (omega arith) (omega (arith, long, w))
         (λ i inside. (let z : 0 + i ≡ i = omega arith in get_or_from_slice_get joined_lists i (joined_at func naming i) [] (joined_is i inside) ∙ ap (joined_at func naming) (sym z))) in
@@ -152,7 +148,7 @@ module _ (func : Function) (table : List Operand) (formed : IsFormed func) (grap
           (own_shows func table naming (slots_in rows) slots_are slots_whole);
     }
 
-    pub solved : AreNumbered func table answers
+    pub solved : AreNumbered func table naming answers
     solved = record {
       whole = answers_are.whole ∙ rows_whole;
       each = λ b below.

@@ -15,10 +15,12 @@ use Rattle.version_walk.specs.declared.slots.Slot.{Slot}
 use Rattle.version_walk.specs.declared.slots.Slot.TheVariants.{Number}
 use Rattle.ssa_rebuild.specs.declared.arrivals.Arrivals.{Arrivals}
 use Rattle.version_walk.specs.Forest.{list_at}
-use Rattle.ssa_rebuild.specs.Rows.{valued, values_in, use_numbers}
+use Rattle.ssa_rebuild.specs.Rows.{use_numbers}
 use Rattle.ssa_rebuild.specs.Answers.{number_of}
 use Rattle.ssa_rebuild.specs.Arrivals.{Behind, labeled_numbers, inserted_numbers, into_numbers, arriving_numbers, AreToCome, Pops, Takes, HoldsAll}
 use Rattle.ssa_rebuild.proofs.RowLemmas.{flat_more}
+use Rattle.ir_ast.specs.Operands.{valued}
+use Rattle.statepoint_insert.specs.Groups.{numbers_in}
 
 pub takes_none : (rows : List (Vec Slot)) (now : Arrivals) (entries : ℕ → List Operand) (numbers : Behind → List ℕ) → ((p : ℕ) → entries p ≡ [])
     → ((here : Behind) → numbers here ≡ []) → Takes rows now now entries numbers
@@ -153,7 +155,7 @@ inserted_numbers_more here preds k v label is =
     (ap (map f) is ∙ map-append f (take k preds) (label ∷ []))
 
 pub joined_numbers_more : (here : Behind) (preds : List ℕ) (joined : List ValueId) (k : ℕ) (value : ValueId) → take (k + 1) joined ≡ take k joined ++ value ∷ []
-    → flat_map (inserted_numbers here preds) (values_in (take (k + 1) joined)) ≡ flat_map (inserted_numbers here preds) (values_in (take k joined)) ++ inserted_numbers here preds value.0
+    → flat_map (inserted_numbers here preds) (numbers_in (take (k + 1) joined)) ≡ flat_map (inserted_numbers here preds) (numbers_in (take k joined)) ++ inserted_numbers here preds value.0
 joined_numbers_more here preds joined k value is =
     let f : ValueId → ℕ = λ value. value.0 in
     flat_more (inserted_numbers here preds) (map f (take k joined)) (map f (take (k + 1) joined)) value.0 (ap (map f) is ∙ map-append f (take k joined) (value ∷ []))

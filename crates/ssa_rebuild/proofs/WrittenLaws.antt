@@ -8,7 +8,7 @@ use Rattle.std.proofs.lemmas.Bool.{cases_Bool}
 use Rattle.std.proofs.lemmas.List.{map-append, length-map, take_all}
 use Rattle.std.proofs.lemmas.List.Sums.{sum_by-cons}
 use Rattle.std.proofs.lemmas.Option.{get_or_from_slice_get}
-use Rattle.list_laws.proofs.Places.{get_map}
+use Rattle.list_laws.proofs.Places.{get_map, drop_none}
 use Rattle.sp_ids.specs.declared.ids.BlockId.{BlockId}
 use Rattle.sp_ids.specs.declared.ids.ValueId.{ValueId}
 use Rattle.ir_ast.specs.declared.types.Ty.{Ty}
@@ -39,36 +39,26 @@ use Rattle.statepoint_insert.specs.Texts.{statepoint_line, result_lines, relocat
 use Rattle.statepoint_insert.proofs.CallLaws.{call_list}
 use Rattle.statepoint_insert.proofs.OldNames.{old_name_is}
 use Rattle.version_walk.specs.declared.slots.Slot.{Slot}
-use Rattle.version_walk.specs.declared.slots.Slot.TheVariants.{Number}
 use Rattle.ssa_rebuild.specs.declared.writing.Writing.{Writing}
 use Rattle.version_walk.specs.Forest.{list_at}
-use Rattle.ssa_rebuild.specs.Rows.{valued, own_uses, held_in, use_numbers, number_behind, line_numbers, lines_numbers, block_numbers, count_of_call, entries_from}
+use Rattle.ssa_rebuild.specs.Rows.{own_uses, held_in, use_numbers, number_behind, line_numbers, lines_numbers, body_numbers, count_of_call}
 use Rattle.ssa_rebuild.specs.Answers.{number_of}
 use Rattle.ssa_rebuild.specs.Written.{filled, filled_bundle, left, results_in, entries_left, operands_written, plain_written, plain_left, token_on, call_left, call_lines, call_written, no_group, group_at, counts_with, line_written, after, written, behind, phi_line, phi_after, phi_lines, phis_behind, begun, block_lines, block_after, blocks_written}
 use Rattle.ssa_rebuild.specs.Arrivals.{labeled_numbers, phi_numbers, inserted_numbers, into_numbers, arriving_numbers}
-use Rattle.ssa_rebuild.proofs.RowLaws.{count_more, calls_of_is, calls_next, range_more, insts_are}
+use Rattle.ssa_rebuild.proofs.RowLaws.{count_more, calls_of_is, calls_next, insts_are}
 use Rattle.ssa_rebuild.proofs.FilledLaws.{filled_is, bundle_is, left_is, phi_filled, phi_left}
 use Rattle.ssa_rebuild.proofs.GroupLaws.{group_text}
+use Rattle.list_laws.proofs.Ranges.{range_more}
+use Rattle.ssa_rebuild.proofs.ArrivalLaws.{drop_front}
+use Rattle.ir_ast.specs.Operands.{valued}
 
-drop_none : {A : Type 0} (xs : List A) → drop 0 xs ≡ xs
-drop_none [] = refl
-drop_none (x ∷ xs) = refl
-
-take_front : {A : Type 0} (n : ℕ) (xs ys : List A) → n ≡ length xs → take n (xs ++ ys) ≡ xs
+pub take_front : {A : Type 0} (n : ℕ) (xs ys : List A) → n ≡ length xs → take n (xs ++ ys) ≡ xs
 take_front n [] ys is = ap (λ (m : ℕ). take m ys) is ∙ none ys
   where
     none : {A : Type 0} (ys : List A) → take 0 ys ≡ []
     none [] = refl
     none (y ∷ ys) = refl
 take_front n (x ∷ xs) ys is = ap (λ (m : ℕ). take m (x ∷ (xs ++ ys))) is ∙ ap (λ (zs : List _). x ∷ zs) (take_front (length xs) xs ys refl)
-
-drop_front : {A : Type 0} (n : ℕ) (xs ys : List A) → n ≡ length xs → drop n (xs ++ ys) ≡ ys
-drop_front n [] ys is = ap (λ (m : ℕ). drop m ys) is ∙ drop_none ys
-drop_front n (x ∷ xs) ys is = ap (λ (m : ℕ). drop m (x ∷ (xs ++ ys))) is ∙ drop_front (length xs) xs ys refl
-
-numbers_back : (ns : List ℕ) → map number_of (map Number ns) ≡ ns
-numbers_back [] = refl
-numbers_back (n ∷ ns) = ap (λ (ms : List ℕ). n ∷ ms) (numbers_back ns)
 
 module _ (func : Function) (table : List Operand) (naming : Naming) where
   abbrev names : List Name
@@ -469,7 +459,7 @@ module _ (func : Function) (table : List Operand) (naming : Naming) where
 
     module _ (joins : List (Vec ValueId)) (rows : List (Vec Slot))
         (joins_are : (b : ℕ) → b < length func.blocks → list_at joins b ≡ map valued (joined_at func naming b))
-        (rows_are : (b : ℕ) → b < length func.blocks → list_at rows b ≡ map Number (block_numbers func table naming number b))
+        (rows_are : (b : ℕ) → b < length func.blocks → (rest : List ℕ) × (map number_of (list_at rows b) ≡ body_numbers func table naming number b ++ rest))
         (joined_counted : (b j v : ℕ) → b < length func.blocks → slice_get (joined_at func naming b) j ≡ Some v → place_in (filter is_joined names) (joined b v) ≡ joined_before b + j)
       where
         abbrev graph : List (List BlockId)
@@ -523,9 +513,9 @@ module _ (func : Function) (table : List Operand) (naming : Naming) where
             let vs = joined_at func naming b in
             let first = begun rows b w in
             let lines : lines_at func b ≡ plain_lines next insts = ap (plain_lines next) (insts_are func table b block stands) in
-            let ends = use_numbers (number_behind func table naming number b) (entries_from func naming b) in
+            let ends = (rows_are b below).0 in
             let body : first.body ≡ map number (map (joined b) vs) ++ (lines_numbers func table naming number b 0 (plain_lines next insts) ++ ends) =
-            ap (map number_of) (rows_are b below) ∙ numbers_back (block_numbers func table naming number b)
+            (rows_are b below).1 ∙ append_assoc (map number (map (joined b) vs)) (lines_numbers func table naming number b 0 (lines_at func b)) ends
             ∙ ap (λ (ls : List Line). map number (map (joined b) vs) ++ (lines_numbers func table naming number b 0 ls ++ ends)) lines in
             let phis = phis_are b vs first (lines_numbers func table naming number b 0 (plain_lines next insts) ++ ends) (flat_map (phi_numbers at_end) insts ++ erest) body
             (entries ∙ append_assoc (flat_map (inserted_numbers at_end (preds func b)) vs) (flat_map (phi_numbers at_end) insts) erest)

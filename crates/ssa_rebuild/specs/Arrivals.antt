@@ -1,22 +1,21 @@
 -- The numbers of entries of phis, in the order of the text.
 use Rattle.std.specs.Prelude.{◌≡◌, ℕ, suc, ◌<◌, ◌+◌, if◌then◌else◌, List, [], ◌∷◌, ◌++◌, length, map, drop, Some, slice_get, slice_index, slice_set}
-use Rattle.std.specs.List.{flat_map}
+use Rattle.std.specs.List.{flat_map, range_with_len}
 use Rattle.std.specs.Global.{Vec}
 use Rattle.sp_ids.specs.declared.ids.BlockId.{BlockId}
-use Rattle.sp_ids.specs.declared.ids.ValueId.{ValueId}
 use Rattle.ir_ast.specs.declared.ops.Operand.{Operand}
 use Rattle.ir_ast.specs.Insts.{Instruction}
 use Rattle.ir_ast.specs.Blocks.{BasicBlock}
 use Rattle.ir_ast.specs.Funcs.{Function}
 use Rattle.ir_ast.specs.Faults.PhiEdges.{is_phi}
 use Rattle.rewriting_forms.specs.Numbered.{preds}
-use Rattle.rewriting_forms.specs.Names.{naming_of}
-use Rattle.rewriting_forms.specs.Rewritten.{names_of, place_in}
+use Rattle.rewriting_forms.specs.Names.{Naming}
+use Rattle.rewriting_forms.specs.Rewritten.{joined_at, names_of, place_in}
 use Rattle.version_walk.specs.declared.slots.Slot.{Slot}
 use Rattle.version_walk.specs.declared.slots.Slot.TheVariants.{Number}
 use Rattle.ssa_rebuild.specs.declared.arrivals.Arrivals.{Arrivals}
 use Rattle.version_walk.specs.Forest.{list_at}
-use Rattle.ssa_rebuild.specs.Rows.{values_in, use_numbers, number_behind}
+use Rattle.ssa_rebuild.specs.Rows.{use_numbers, number_behind}
 use Rattle.ssa_rebuild.specs.Answers.{number_of}
 
 -- the number of each value at the end of each block
@@ -62,8 +61,8 @@ pub record Takes (rows : List (Vec Slot)) (old new : Arrivals) (entries : ℕ �
 abbrev pub HoldsAll : List (Vec Slot) → List ℕ → List ℕ → (ℕ → List Operand) → (Behind → List ℕ) → Type 0
 HoldsAll rows places found entries numbers = (here : Behind) → AreToCome here rows places entries → found ≡ numbers here
 
--- the numbers of all entries of phis of a function, where phis are inserted for these values
-abbrev pub entry_numbers : Function → List Operand → List (Vec ValueId) → List ℕ
-entry_numbers func table joins =
-    arriving_numbers (λ p. number_behind func table (naming_of func table) (place_in (names_of func table (naming_of func table))) p) (preds func)
-    (map (λ join. values_in join.items) joins) 0 func.blocks
+-- the numbers of all entries of phis of a function
+abbrev pub entry_numbers : Function → List Operand → Naming → List ℕ
+entry_numbers func table naming =
+    arriving_numbers (λ p. number_behind func table naming (place_in (names_of func table naming)) p) (preds func)
+    (map (joined_at func naming) (range_with_len 0 (length func.blocks))) 0 func.blocks

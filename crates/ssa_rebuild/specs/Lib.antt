@@ -4,3 +4,4 @@ pub mod Solved
 pub mod Marks
 pub mod Written
 pub mod Arrivals
+pub mod Versions

@@ -22,9 +22,7 @@ use Rattle.version_walk.specs.Slots.{next_behind}
 use Rattle.version_walk.specs.Forest.{list_at}
 use Rattle.version_walk.specs.declared.slots.Slot.{Slot}
 use Rattle.version_walk.specs.declared.slots.Slot.TheVariants.{Use, Own, Give, Token, Number}
-
-abbrev pub valued : ℕ → ValueId
-valued number = record { 0 = number }
+use Rattle.ir_ast.specs.Operands.{valued}
 
 abbrev pub use_slot : ℕ → Slot
 use_slot v = Use (valued v)
@@ -118,9 +116,6 @@ calls_of call (line ∷ lines) = calls_of (call + count_of_call line) lines
 abbrev pub one_slots : List (List ℕ) → ℕ → Line → List Slot
 one_slots lists call line = if calls line then call_slots (slice_index_or lists call []) line else plain_slots line
 
-abbrev pub values_in : List ValueId → List ℕ
-values_in values = map (λ value. value.0) values
-
 -- the rows of these blocks without their entries: the inserted phis of each, and its lines
 abbrev pub body_rows : List (List ℕ) → List (List ℕ) → (call next : ℕ) → List BasicBlock → List (List Slot)
 body_rows lists joins call next [] = []
@@ -185,10 +180,13 @@ module _ (func : Function) (table : List Operand) (naming : Naming) (number : Na
   abbrev pub number_behind : ℕ → ℕ → ℕ
   number_behind b v = number (names_at_end func table naming b v)
 
+  -- the numbers of a block's inserted phis and of its lines
+  abbrev pub body_numbers : ℕ → List ℕ
+  body_numbers b = map number (map (joined b) (joined_at func naming b)) ++ lines_numbers b 0 (lines_at func b)
+
+  -- and those of the entries of phis that stand for it
   abbrev pub block_numbers : ℕ → List ℕ
-  block_numbers b =
-      map number (map (joined b) (joined_at func naming b))
-      ++ (lines_numbers b 0 (lines_at func b) ++ use_numbers (number_behind b) (entries_from func naming b))
+  block_numbers b = body_numbers b ++ use_numbers (number_behind b) (entries_from func naming b)
 
 -- ---- numbers in the order of the text
 

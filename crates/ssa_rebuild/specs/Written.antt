@@ -180,7 +180,3 @@ blocks_written graph groups joins rows number writing [] = []
 blocks_written graph groups joins rows number writing (block ∷ blocks) =
     record { name = block.name; insts = block_lines graph groups joins rows number writing block.insts }
     ∷ blocks_written graph groups joins rows (suc number) (block_after graph groups joins rows number writing block.insts) blocks
-
--- a line 0 for each instruction
-abbrev pub zeros_of : Function → List ℕ
-zeros_of func = replicate (length (instructions_of func.blocks)) 0

@@ -5,8 +5,10 @@ ghost use Rattle.std.specs.List.{flat_map};
 ghost use Rattle.ir_cfg.specs.Graphs.{graph_of};
 ghost use Rattle.ir_ast.specs.declared.ops.Operand.{Operand};
 ghost use Rattle.rewriting_forms.specs.Numbered.{preds};
-ghost use Rattle.ssa_rebuild.specs.Rows.{valued, values_in, entries_for, inserted_entries, phi_entries, entries_all, use_numbers};
+ghost use Rattle.ssa_rebuild.specs.Rows.{entries_for, inserted_entries, phi_entries, entries_all, use_numbers};
 ghost use Rattle.ssa_rebuild.specs.Arrivals.{Pops, Takes, HoldsAll, labeled_numbers, phi_numbers, inserted_numbers, arriving_numbers};
+ghost use Rattle.ir_ast.specs.Operands.{valued};
+ghost use Rattle.statepoint_insert.specs.Groups.{numbers_in};
 
 use crate::lines::is_phi;
 use crate::stream::number_of;
@@ -36,8 +38,8 @@ pub(crate) fn all_arrivals(
     requires cfg { cfg.now ≡ graph_of func.now.content }
     requires joins { length joins.now ≡ length func.now.content.blocks }
     ensures { IfOk result (λ numbers. HoldsAll rows.now places.items numbers.items
-        (entries_all (preds func.now.content) (map (λ join. values_in join.items) joins.now) 0 func.now.content.blocks)
-        (λ here. arriving_numbers here (preds func.now.content) (map (λ join. values_in join.items) joins.now) 0 func.now.content.blocks)) }
+        (entries_all (preds func.now.content) (map (λ join. numbers_in join.items) joins.now) 0 func.now.content.blocks)
+        (λ here. arriving_numbers here (preds func.now.content) (map (λ join. numbers_in join.items) joins.now) 0 func.now.content.blocks)) }
 {
     let mut arrivals = Arrivals {
         places,
@@ -66,8 +68,8 @@ fn take_entries(
     arrivals: &mut Arrivals,
 ) -> Result<(), Memory>
     ensures { IfOk result (λ _. Takes rows.now arrivals.old arrivals.new
-        (λ p. flat_map (inserted_entries p (map (λ block. block.0) preds.now)) (values_in joined.now) ++ flat_map (phi_entries p) insts.now)
-        (λ here. flat_map (inserted_numbers here (map (λ block. block.0) preds.now)) (values_in joined.now) ++ flat_map (phi_numbers here) insts.now)) }
+        (λ p. flat_map (inserted_entries p (map (λ block. block.0) preds.now)) (numbers_in joined.now) ++ flat_map (phi_entries p) insts.now)
+        (λ here. flat_map (inserted_numbers here (map (λ block. block.0) preds.now)) (numbers_in joined.now) ++ flat_map (phi_numbers here) insts.now)) }
 {
     take_joined(rows, preds, joined, arrivals)?;
     take_phis(rows, insts, arrivals)?;
@@ -81,8 +83,8 @@ fn take_joined(
     arrivals: &mut Arrivals,
 ) -> Result<(), Memory>
     ensures { IfOk result (λ _. Takes rows.now arrivals.old arrivals.new
-        (λ p. flat_map (inserted_entries p (map (λ block. block.0) preds.now)) (values_in joined.now))
-        (λ here. flat_map (inserted_numbers here (map (λ block. block.0) preds.now)) (values_in joined.now))) }
+        (λ p. flat_map (inserted_entries p (map (λ block. block.0) preds.now)) (numbers_in joined.now))
+        (λ here. flat_map (inserted_numbers here (map (λ block. block.0) preds.now)) (numbers_in joined.now))) }
 {
     for value in joined {
         take_inserted(rows, preds, *value, arrivals)?;

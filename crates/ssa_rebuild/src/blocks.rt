@@ -28,8 +28,8 @@ pub(crate) fn all_blocks<'a>(
     writing: Writing<'a>,
     blocks: Vec<Block>,
 ) -> Result<Vec<Block>, Memory>
-    requires joins { length joins.now ≡ length cfg.now }
-    requires few { length joins.now < 2 ^ 32 }
+    requires blocks { length blocks.items ≡ length cfg.now }
+    requires few { length blocks.items < 2 ^ 32 }
     ensures { IfOk result (λ after. after.items ≡ blocks_written cfg.now groups.now joins.now rows.now 0 writing.entry blocks.items) }
 {
     let mut now = writing;
@@ -37,9 +37,6 @@ pub(crate) fn all_blocks<'a>(
     let mut after = Vec::with_capacity(alloc, blocks.len())?;
     let mut number = 0;
     for block in blocks {
-        if number as usize >= joins.len() {
-            return Err(Memory);
-        }
         after.push(one_block(
             alloc,
             cfg,

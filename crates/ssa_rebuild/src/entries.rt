@@ -2,7 +2,8 @@
 
 ghost use Rattle.std.specs.Prelude.{◌≡◌, ◌++◌, ◌==◌, if◌then◌else◌, [], ◌∷◌, map, IfOk};
 ghost use Rattle.std.specs.List.{flat_map};
-ghost use Rattle.ssa_rebuild.specs.Rows.{Grows, entries_for, inserted_entries, phi_entries, values_in};
+ghost use Rattle.ssa_rebuild.specs.Rows.{Grows, entries_for, inserted_entries, phi_entries};
+ghost use Rattle.statepoint_insert.specs.Groups.{numbers_in};
 
 use crate::lines::{is_phi, push_use};
 use ir_ast::{Inst, Operand};
@@ -18,7 +19,7 @@ pub(crate) fn add_entries(
     insts: &[Inst],
 ) -> Result<(), Memory>
     ensures { IfOk result (λ _. Grows rows.old.items rows.new.items
-        (λ p. flat_map (inserted_entries p (map (λ block. block.0) preds.now)) (values_in joined.now) ++ flat_map (phi_entries p) insts.now)) }
+        (λ p. flat_map (inserted_entries p (map (λ block. block.0) preds.now)) (numbers_in joined.now) ++ flat_map (phi_entries p) insts.now)) }
 {
     add_joined(rows, preds, joined)?;
     add_phis(rows, insts)?;
@@ -31,7 +32,7 @@ fn add_joined(
     joined: &[ValueId],
 ) -> Result<(), Memory>
     ensures { IfOk result (λ _. Grows rows.old.items rows.new.items
-        (λ p. flat_map (inserted_entries p (map (λ block. block.0) preds.now)) (values_in joined.now))) }
+        (λ p. flat_map (inserted_entries p (map (λ block. block.0) preds.now)) (numbers_in joined.now))) }
 {
     for value in joined {
         add_inserted(rows, preds, *value)?;

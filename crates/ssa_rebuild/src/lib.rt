@@ -13,6 +13,8 @@ mod rooms;
 mod rows;
 mod solve;
 mod stream;
+mod versions;
 mod writing;
 
-pub use functions::rebuild;
+pub use functions::{rebuild, with_versions};
+pub use versions::Versions;

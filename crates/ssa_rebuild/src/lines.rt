@@ -6,7 +6,8 @@ ghost use Rattle.ir_ast.specs.Callees.{is_leaf};
 ghost use Rattle.object_meaning.specs.Lines.{following, numbered};
 ghost use Rattle.object_meaning.specs.TargetRuns.{plain_lines};
 ghost use Rattle.rewriting_forms.specs.Numbered.{is_call};
-ghost use Rattle.ssa_rebuild.specs.Rows.{give_slot, use_slot, uses_of, held_in, own_slots, own_uses, plain_slots, call_slots, one_slots, listed_slots, count_of_call, calls_of, group_list, values_in};
+ghost use Rattle.ssa_rebuild.specs.Rows.{give_slot, use_slot, uses_of, held_in, own_slots, own_uses, plain_slots, call_slots, one_slots, listed_slots, count_of_call, calls_of, group_list};
+ghost use Rattle.statepoint_insert.specs.Groups.{numbers_in};
 
 use ir_ast::{Callee, Inst, Op, Operand, Ty};
 use sp_ids::{Memory, ValueId};
@@ -160,7 +161,7 @@ fn push_relocated(relocates: &[Relocate], row: &mut Vec<Packed>) -> Result<(), M
 
 /// Adds the definitions of the phis that are inserted for these pointers.
 pub(crate) fn push_joined(values: &[ValueId], row: &mut Vec<Packed>) -> Result<(), Memory>
-    ensures { IfOk result (λ _. row.new.items ≡ row.old.items ++ map give_slot (values_in values.now)) }
+    ensures { IfOk result (λ _. row.new.items ≡ row.old.items ++ map give_slot (numbers_in values.now)) }
 {
     for value in values {
         row.push(Packed::of(Slot::Give(*value))?)?;

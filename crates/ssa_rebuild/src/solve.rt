@@ -2,9 +2,10 @@
 
 ghost use Rattle.std.specs.Prelude.{◌≡◌, length, map, IfOk};
 ghost use Rattle.ir_cfg.specs.Graphs.{graph_of};
+ghost use Rattle.rewriting_forms.specs.Names.{full_naming};
 ghost use Rattle.live_sets.specs.Joins.{AreJoins};
-ghost use Rattle.statepoint_insert.specs.Groups.{groups_of};
-ghost use Rattle.ssa_rebuild.specs.Rows.{body_rows, group_list, slots_in, values_in};
+ghost use Rattle.statepoint_insert.specs.Groups.{groups_of, numbers_in};
+ghost use Rattle.ssa_rebuild.specs.Rows.{body_rows, group_list, slots_in};
 ghost use Rattle.ssa_rebuild.specs.Solved.{AreNumbered};
 
 use crate::listed::listed;
@@ -40,8 +41,8 @@ pub(crate) fn solve(
     requires cfg { cfg.now ≡ graph_of marked.now.before }
     requires joins { AreJoins marked.now.before marked.now.table joins.now }
     requires bodies { slots_in bodies.items
-        ≡ body_rows (map group_list (groups_of marked.now.before marked.now.table)) (map (λ join. values_in join.items) joins.now) 0 (length marked.now.before.args) marked.now.before.blocks }
-    ensures { IfOk result (λ answers. AreNumbered marked.now.before marked.now.table answers.items) }
+        ≡ body_rows (map group_list (groups_of marked.now.before marked.now.table)) (map (λ join. numbers_in join.items) joins.now) 0 (length marked.now.before.args) marked.now.before.blocks }
+    ensures { IfOk result (λ answers. AreNumbered marked.now.before marked.now.table (full_naming marked.now.before marked.now.table) answers.items) }
 {
     let func = marked.func();
     let mut rows = bodies;

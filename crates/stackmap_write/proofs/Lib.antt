@@ -1,4 +1,4 @@
-mod Examples
+mod Samples
 pub mod AppendLemmas
 pub mod EntryLemmas
 pub mod RecordLemmas

@@ -12,7 +12,7 @@ use Rattle.rewriting_forms.specs.Numbered.{lines_at, calls}
 use Rattle.rewriting_forms.specs.Liveness.{live_list, lists_from, live_lists}
 use Rattle.statepoint_insert.specs.Calls.{calls_in, calls_before}
 
-count_cons : (line : Line) (lines : List Line) → count_by calls (line ∷ lines) ≡ cond (calls line) 1 0 + count_by calls lines
+pub count_cons : (line : Line) (lines : List Line) → count_by calls (line ∷ lines) ≡ cond (calls line) 1 0 + count_by calls lines
 count_cons line lines = sum_by-cons (λ (l : Line). cond (calls l) 1 0) line lines
 
 module _ (func : Function) (table : List Operand) where

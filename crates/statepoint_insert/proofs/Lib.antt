@@ -6,4 +6,4 @@ pub mod CallLaws
 pub mod TextLaws
 pub mod OldNames
 pub mod PlainLaws
-mod Example
+mod Samples

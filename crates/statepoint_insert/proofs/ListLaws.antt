@@ -18,7 +18,9 @@ use Rattle.ir_ast.specs.Values.{argument, outcome, definition_type, definitions_
 use Rattle.object_meaning.specs.Lines.{Line}
 use Rattle.rewriting_forms.specs.Numbered.{lines_at, line_at, gives, calls, pointers}
 use Rattle.rewriting_forms.specs.Liveness.{is_live_after, live_list, lists_from, live_lists}
-use Rattle.statepoint_insert.specs.Groups.{GroupContent, valued, numbers_in, group_of, groups_of}
+use Rattle.statepoint_insert.specs.Groups.{GroupContent, numbers_in, group_of, groups_of}
+use Rattle.ir_ast.proofs.FuncLaws.{few_values, few_filtered}
+use Rattle.ir_ast.specs.Operands.{valued}
 
 -- ---- sizes
 
@@ -32,33 +34,16 @@ sizes (list ∷ lists) =
 
 -- ---- the lists of a function are short
 
-few_filter : {A : Type 0} (test : A → Bool) (xs : List A) → length (filter test xs) ≤ length xs
-few_filter test [] = omega arith
-few_filter test (x ∷ xs) = elim (cases_Bool (test x)) [
-  | inl passes ↦ (let rest = few_filter test xs in rw passes (omega (arith, rest)))
-  | inr fails ↦ (let rest = few_filter test xs in rw fails (omega (arith, rest)))
-]
-
-few_values : (func : Function) → length (value_types func) ≤ length func.args + length (instructions_of func.blocks)
-few_values func =
-    let results = filter (λ (inst : Instruction). is_some inst.result) (instructions_of func.blocks) in
-    let all = length-map (definitions_of func) definition_type in
-    let split = length-append (map argument func.args) (map outcome results) in
-    let args = length-map func.args argument in
-    let outcomes = length-map results outcome in
-    let few = few_filter (λ (inst : Instruction). is_some inst.result) (instructions_of func.blocks) in
-    omega (arith, all, split, args, outcomes, few)
-
 pub few_pointers : (func : Function) → length (pointers func) ≤ length func.args + length (instructions_of func.blocks)
 few_pointers func =
-    let kept = few_filter (λ (v : ℕ). option_map_or is_pointer (slice_get (value_types func) v) false) (range_with_len 0 (length (value_types func))) in
+    let kept = few_filtered (λ (v : ℕ). option_map_or is_pointer (slice_get (value_types func) v) false) (range_with_len 0 (length (value_types func))) in
     let range = length-range_with_len 0 (length (value_types func)) in
     let values = few_values func in
     omega (arith, kept, range, values)
 
 pub few_live : (func : Function) (table : List Operand) (b k : ℕ) → length (live_list func table b k) ≤ length func.args + length (instructions_of func.blocks)
 few_live func table b k =
-    let kept = few_filter (λ (v : ℕ). is_live_after func table b k v && not (gives (line_at func b k) v)) (pointers func) in
+    let kept = few_filtered (λ (v : ℕ). is_live_after func table b k v && not (gives (line_at func b k) v)) (pointers func) in
     let all = few_pointers func in
     omega (arith, kept, all)
 

@@ -13,6 +13,7 @@ use Rattle.object_meaning.specs.Lines.{Line, after_all, first_registers, followi
 use Rattle.object_meaning.specs.TargetRuns.{plain_lines}
 use Rattle.rewriting_forms.specs.Numbered.{lines_at}
 use Rattle.rewriting_forms.specs.Rewritten.{old_name}
+use Rattle.list_laws.proofs.Places.{drop_first}
 
 abbrev has_result : Instruction → Bool
 has_result inst = is_some inst.result
@@ -22,18 +23,6 @@ given_by insts = map outcome (filter has_result insts)
 
 given_append : (xs ys : List Instruction) → given_by (xs ++ ys) ≡ given_by xs ++ given_by ys
 given_append xs ys = ap (map outcome) (filter-append has_result xs ys) ∙ map-append outcome (filter has_result xs) (filter has_result ys)
-
-drop_first : {A : Type 0} (all : List A) (place : ℕ) (x : A) (rest : List A) → drop place all ≡ x ∷ rest → (slice_get all place ≡ Some x) × (drop (place + 1) all ≡ rest)
-drop_first [] zero x rest is = absurd cc
-drop_first [] (suc place) x rest is = absurd cc
-drop_first (y ∷ all) zero x rest is =
-    let same : y ≡ x = cc in
-    let behind : all ≡ rest = cc in
-    (ap (λ z. Some z) same, behind)
-drop_first (y ∷ all) (suc place) x rest is =
-    let found = drop_first all place x rest is in
-    let further : suc place + 1 ≡ suc (place + 1) = omega arith in
-    (found.0, ap (λ n. drop n (y ∷ all)) further ∙ found.1)
 
 drop_given : (all : List Definition) (next : ℕ) (inst : Instruction) (insts : List Instruction) (after : List Definition) → drop next all ≡ given_by (inst ∷ insts) ++ after
     → (is_some inst.result ≡ true → slice_get all next ≡ Some (outcome inst)) × (drop (following next inst) all ≡ given_by insts ++ after)

@@ -133,38 +133,8 @@ group_made table values row has_null relocates null_is ranks made =
 
 -- ---- rows
 
-pub blank_row : (n : ℕ) → IsBlank (replicate n 0)
-blank_row n = record {
-  each = λ v. elim (cases_lt v n) [
-    | inl below ↦ get_or-replicate n v 0 0 below
-    | inr beyond ↦ get_or-eq_default (replicate n 0) 0 (let h = length-replicate {A = ℕ} n 0 in omega (arith, h, beyond))
-  ];
-}
-
 pub no_ranks : (rank : ℕ) (values : List ValueId) (row : List ℕ) → values ≡ [] → IsBlank row → HasRanks rank values row
 no_ranks rank values row none blank = record { each = λ v. blank.each v ∙ sym (ap (λ (vs : List ValueId). placed (λ value. eqb value.0 v) rank vs) none) }
 
--- one more value in front
-pub more_ranks : (rank : ℕ) (value : ValueId) (values : List ValueId) (row : List ℕ) → value.0 < length row → HasRanks (suc rank) values row
-    → HasRanks rank (value ∷ values) (set row value.0 rank)
-more_ranks rank value values row below ranks = record {
-  each = λ v. elim (cases_eq value.0 v) [
-    | inl same ↦ rw (eq-eqb value.0 v same) (sym (ap (λ (n : ℕ). slice_index (set row value.0 rank) n) same) ∙ get_or-set_same row value.0 rank 0 below)
-    | inr other ↦ rw (ne_eqb value.0 v other) (get_or-set_other row value.0 v rank 0 (λ e. other (sym e)) ∙ ranks.each v)
-  ];
-}
-
 pub ranked_beside : (rank : ℕ) (values : List ValueId) (row : List ℕ) → HasRanks rank values row → IsBlankBeside values row
 ranked_beside rank values row ranks = record { each = λ v none. ranks.each v ∙ placed_none (λ value. eqb value.0 v) rank values none }
-
-pub fewer_beside : (value : ValueId) (values : List ValueId) (row : List ℕ) → value.0 < length row → IsBlankBeside (value ∷ values) row
-    → IsBlankBeside values (set row value.0 0)
-fewer_beside value values row below beside = record {
-  each = λ v none. elim (cases_eq value.0 v) [
-    | inl same ↦ sym (ap (λ (n : ℕ). slice_index (set row value.0 0) n) same) ∙ get_or-set_same row value.0 0 0 below
-    | inr other ↦ get_or-set_other row value.0 v 0 0 (λ e. other (sym e)) ∙ beside.each v (rw (ne_eqb value.0 v other) none)
-  ];
-}
-
-pub none_beside : (values : List ValueId) (row : List ℕ) → values ≡ [] → IsBlankBeside values row → IsBlank row
-none_beside values row none beside = record { each = λ v. beside.each v (rw none refl) }

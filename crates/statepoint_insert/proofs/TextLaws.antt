@@ -33,34 +33,34 @@ abbrev Rising : ℕ → List ℕ → Type 0
 Rising low [] = Unit {0}
 Rising low (x ∷ xs) = (low ≤ x) × Rising (suc x) xs
 
-lower : (low less : ℕ) (xs : List ℕ) → less ≤ low → Rising low xs → Rising less xs
+pub lower : (low less : ℕ) (xs : List ℕ) → less ≤ low → Rising low xs → Rising less xs
 lower low less [] le rising = tt
 lower low less (x ∷ xs) le rising = (let h = rising.0 in omega (arith, h, le), rising.1)
 
-rising_range : (from count : ℕ) → Rising from (range_with_len from count)
+pub rising_range : (from count : ℕ) → Rising from (range_with_len from count)
 rising_range from zero = tt
 rising_range from (suc count) = (omega arith, lower (from + 1) (suc from) (range_with_len (from + 1) count) (omega arith) (rising_range (from + 1) count))
 
-rising_filter : (test : ℕ → Bool) (low : ℕ) (xs : List ℕ) → Rising low xs → Rising low (filter test xs)
+pub rising_filter : (test : ℕ → Bool) (low : ℕ) (xs : List ℕ) → Rising low xs → Rising low (filter test xs)
 rising_filter test low [] rising = tt
 rising_filter test low (x ∷ xs) rising = elim (cases_Bool (test x)) [
   | inl passes ↦ rw passes (rising.0, rising_filter test (suc x) xs rising.1)
   | inr fails ↦ rw fails (rising_filter test low xs (lower (suc x) low xs (let h = rising.0 in omega (arith, h)) rising.1))
 ]
 
-rising_list : (func : Function) (table : List Operand) (b k : ℕ) → Rising 0 (live_list func table b k)
+pub rising_list : (func : Function) (table : List Operand) (b k : ℕ) → Rising 0 (live_list func table b k)
 rising_list func table b k =
     rising_filter (λ (v : ℕ). is_live_after func table b k v && not (gives (line_at func b k) v)) 0 (pointers func)
     (rising_filter (λ (v : ℕ). option_map_or is_pointer (slice_get (value_types func) v) false) 0 (range_with_len 0 (length (value_types func)))
     (rising_range 0 (length (value_types func))))
 
-rising_above : (low i v : ℕ) (xs : List ℕ) → Rising low xs → slice_get xs i ≡ Some v → low ≤ v
+pub rising_above : (low i v : ℕ) (xs : List ℕ) → Rising low xs → slice_get xs i ≡ Some v → low ≤ v
 rising_above low i v [] rising stands = absurd (cc)
 rising_above low zero v (x ∷ xs) rising stands = let e : x ≡ v = cc in let h = rising.0 in omega (arith, e, h)
 rising_above low (suc i) v (x ∷ xs) rising stands = let rest = rising_above (suc x) i v xs rising.1 stands in let h = rising.0 in omega (arith, rest, h)
 
 -- the rank of a listed value
-rank_is : (low rank i v : ℕ) (xs : List ℕ) → Rising low xs → slice_get xs i ≡ Some v
+pub rank_is : (low rank i v : ℕ) (xs : List ℕ) → Rising low xs → slice_get xs i ≡ Some v
     → placed (λ entry. same_operand entry (named v)) rank (map (λ w. named w) xs) ≡ rank + i
 rank_is low rank i v [] rising stands = absurd (cc)
 rank_is low rank zero v (x ∷ xs) rising stands =
@@ -73,12 +73,12 @@ rank_is low rank (suc i) v (x ∷ xs) rising stands =
 
 -- ---- operands
 
-all_values : (number : Name → ℕ) (names : Names) (list : List ℕ)
+pub all_values : (number : Name → ℕ) (names : Names) (list : List ℕ)
     → map (renamed number names) (map (λ v. named v) list) ≡ map (λ v. named v) (map (λ v. number (names v)) list)
 all_values number names [] = refl
 all_values number names (v ∷ list) = ap (λ (os : List Operand). named (number (names v)) ∷ os) (all_values number names list)
 
-all_entries : (number : Name → ℕ) (names : Names) (has_null : Bool) (list : List ℕ)
+pub all_entries : (number : Name → ℕ) (names : Names) (has_null : Bool) (list : List ℕ)
     → map (renamed number names) ((if has_null then Null ∷ [] else []) ++ map (λ v. named v) list) ≡ live_entries has_null (map (λ v. number (names v)) list)
 all_entries number names true list = ap (λ (os : List Operand). Null ∷ os) (all_values number names list)
 all_entries number names false list = all_values number names list

@@ -10,14 +10,12 @@ use Rattle.rewriting_forms.specs.Numbered.{named, base_at}
 use Rattle.rewriting_forms.specs.Liveness.{live_lists}
 use Rattle.rewriting_forms.specs.Rewritten.{is_null, same_operand}
 use Rattle.statepoint_insert.specs.declared.groups.Relocate.{Relocate}
+use Rattle.ir_ast.specs.Operands.{valued}
 
 -- what a contract sees of a `Group`
 pub record GroupContent : Type 0 where
   pub has_null : Bool
   pub relocates : List Relocate
-
-abbrev pub valued : ℕ → ValueId
-valued number = record { 0 = number }
 
 abbrev pub numbers_in : List ValueId → List ℕ
 numbers_in values = map (λ value. value.0) values

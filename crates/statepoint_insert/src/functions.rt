@@ -3,8 +3,9 @@
 ghost use Rattle.std.specs.Prelude.{◌≡◌, ◌<◌, ◌-◌, ◌^◌, length, map, IfOk};
 ghost use Rattle.std.specs.List.{All};
 ghost use Rattle.rewriting_forms.specs.Liveness.{live_lists};
-ghost use Rattle.statepoint_insert.specs.Groups.{valued, numbers_in, group_of};
+ghost use Rattle.statepoint_insert.specs.Groups.{numbers_in, group_of};
 ghost use Rattle.statepoint_insert.specs.Marked.{IsReady, marked_of};
+ghost use Rattle.ir_ast.specs.Operands.{valued};
 
 use crate::bounds::room_for;
 use crate::groups::Group;

@@ -1,5 +1,5 @@
 -- The module of an accepted text.
-use Rattle.std.proofs.Common.{◌≡◌, ◌≤◌, ℕ, List, length, sym, subst, ◌∙◌, Global}
+use Rattle.std.proofs.Common.{◌≡◌, ◌≤◌, ℕ, List, length, sym, subst, ◌∙◌}
 use Rattle.std.specs.List.{All}
 use Rattle.ir_ast.specs.declared.modules.Form.{Form as TextForm}
 use Rattle.ir_ast.specs.declared.modules.Form.TheVariants as text_forms
@@ -15,7 +15,7 @@ use Rattle.statepoint_tool.specs.Complete.{IsTold}
 use Rattle.statepoint_tool.specs.Taken.{Taken, Bytes, FilesSeen, MayGive}
 use Rattle.statepoint_tool.specs.Work.{content_of}
 
-same_bytes : (one other : List ℕ) → Bytes one ≡ Bytes other → one ≡ other
+pub same_bytes : (one other : List ℕ) → Bytes one ≡ Bytes other → one ≡ other
 same_bytes one other is = cc
 
 -- a told text and one that a file may have given are within the limit
@@ -36,8 +36,8 @@ module_of_accepted form text lines within accepted =
     (accepted_is_of form text accepted.read.readings within accepted.read.read (subst (HasNoFault form) accepted.read.are accepted.faultless))
 
 -- and sound where the verifier finds no fault
-pub sound_of_accepted : Global → (text : List ℕ) (lines : List Line) → length text ≤ 16777216 → IsAccepted text_forms.Rewritten text lines
+pub sound_of_accepted : (text : List ℕ) (lines : List Line) → length text ≤ 16777216 → IsAccepted text_forms.Rewritten text lines
     → IsVerified (content_of text_forms.Rewritten lines) → IsSound (content_of text_forms.Rewritten lines)
-sound_of_accepted alloc text lines within accepted none =
+sound_of_accepted text lines within accepted none =
     let is = module_of_accepted text_forms.Rewritten text lines within accepted in
     record { target = is.0; bundles = is.1; verified = none }

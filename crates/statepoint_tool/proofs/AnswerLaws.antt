@@ -21,7 +21,7 @@ use Rattle.statepoint_tool.specs.declared.refusal.Refusal.TheVariants.{Defined, 
 use Rattle.statepoint_tool.specs.declared.status.Status.{Status}
 use Rattle.statepoint_tool.specs.declared.status.Status.TheVariants as ending
 use Rattle.statepoint_tool.proofs.StepLaws.{same-value}
-use Rattle.statepoint_tool.proofs.CauseLaws.{Explains, Explains-work, CauseOf-explained, ComesWith, Once-work, Rose-gives}
+use Rattle.statepoint_tool.proofs.CauseLaws.{Explains, Explains-work, CauseOf-explained, ComesWith, IsWithin, Once-work, Rose-gives, within_may}
 
 -- the status of a call is that of a step that the work comes to
 pub record StatusOf (phase : Step Output → Type 0) (status : Status) : Type 0 where
@@ -68,7 +68,7 @@ module _ (words : List (List ℕ)) (files : FilesSeen) (out notes : SinkSeen) (s
 
   -- a status that never yields comes exactly where its cause holds
   pub Exactly-answer : (wanted : Status) → wanted ≢ ending.WantOfMemory → wanted ≢ ending.WriteFault →
-      ((given : Given) → CauseOf wanted words given → ComesWith words given wanted) →
+      ((given : Given) → IsWithin words given → CauseOf wanted words given → ComesWith words given wanted) →
       Exactly words files out notes status wanted (CauseOf wanted)
   Exactly-answer wanted no_memory no_write comes =
       let given = answer.works.given in
@@ -78,7 +78,7 @@ module _ (words : List (List ℕ)) (files : FilesSeen) (out notes : SinkSeen) (s
           | inr yields ↦ absurd (not_yielding wanted no_memory no_write is yields)
         ];
         wherever = λ holds. elim step_of_answer [
-          | inl of ↦ inl (comes_of_answer wanted (comes given (holds given answer.works.may)) of)
+          | inl of ↦ inl (comes_of_answer wanted (comes given (within_may words given files answer.works.may) (holds given answer.works.may)) of)
           | inr yields ↦ inr yields
         ];
       }

@@ -1,5 +1,5 @@
 -- Each status of the work comes exactly by its cause.
-use Rattle.std.proofs.Common.{◌≡◌, ℕ, Bool, true, false, List, [], Option, Some, None, refl, sym, ap, subst, ◌∙◌}
+use Rattle.std.proofs.Common.{◌≡◌, ◌≤◌, ℕ, Bool, true, false, List, [], length, Option, Some, None, refl, sym, ap, subst, ◌∙◌}
 use Rattle.std.specs.Prelude.{ℤ}
 use Rattle.sp_ids.specs.declared.ends.End.{End}
 use Rattle.sp_ids.specs.declared.ends.End.TheVariants as ended
@@ -15,10 +15,10 @@ use Rattle.pair_facts.specs.Faults.{IsVerified, IsLeastFault as IsLeastCheckFaul
 use Rattle.stackmap_write.specs.ModuleMaps.{map_of}
 use Rattle.tool_io.specs.Counts.{Rose}
 use Rattle.statepoint_tool.specs.Causes.{IsAccepted, AsksToShow, AsksToCheck, AsksToRewrite, AsksToGenerate, IsAskedFor, by_source, by_run, by_exec, AsksForRun, ReadsToRewrite, ReadsModule, ReadsInput, ReadsPlan, Runs, RunsRewritten, Executes, IsExecuted, shown_by, ReadsForMap, IsTrusted, Checks, engine_asked, module_run, steps_asked, Ends, by_showing, by_checking, by_rewriting, by_running, by_running_rewritten, by_executing, by_generating, EndsWith, NoCommand, NamesModule, to_show, to_check, to_rewrite, to_run, NamesJudged, to_judge, to_run_judged, HasCheckFault, HasSomeCheckFault, NamesSource, to_write, to_run_rewritten, HasModuleFault, in_text, too_many, HasSomeModuleFault, HasSomeInputFault, HasSomePlanFault, HasSomeMapFault, FileGives, module_gives, input_gives, plan_gives, map_gives, CannotRead, IsTooLong, StopsBy}
-use Rattle.sp_rewrite.specs.Relocates.{HasFewRelocates, HasManyRelocates}
+use Rattle.ir_cfg.specs.TypedModules.{IsModuleOf}
+use Rattle.sp_rewrite.specs.Relocates.{HasManyRelocates}
 use Rattle.sp_rewrite.specs.Statements.{IsRewritten}
-use Rattle.sp_rewrite.proofs.RewrittenLaws.{rewriting_is_one}
-use Rattle.rewritten_sound.specs.Definite.{rewritten_source}
+use Rattle.sp_rewrite.proofs.RewrittenLaws.{rewriting_is_one, source_is_rewritten}
 use Rattle.object_meaning.specs.Outcomes.{Outcome}
 use Rattle.object_meaning.specs.SourceRuns.{source_setting}
 use Rattle.object_meaning.proofs.OutcomeLaws.{gives_one}
@@ -43,7 +43,8 @@ use Rattle.tool_words.specs.declared.request.Command.{Command}
 use Rattle.tool_words.specs.declared.request.Command.TheVariants.{Show, Rewrite, Check, Source, Run, Exec, Gen}
 use Rattle.statepoint_tool.specs.declared.status.Status.{Status}
 use Rattle.statepoint_tool.specs.declared.status.Status.TheVariants.{ModuleRefused, WordsRefused, ReadFault, PlanRefused, InputRefused, MapRefused, CheckSaidNo, TooLong}
-use Rattle.statepoint_tool.proofs.RewriteLaws.{Once-Rewriting, Once-rewrite_phase, few_or_many}
+use Rattle.statepoint_tool.proofs.AcceptedLaws.{module_of_accepted, within_given}
+use Rattle.statepoint_tool.proofs.RewriteLaws.{Once-Rewriting, Once-rewrite_phase}
 use Rattle.statepoint_tool.proofs.InputLaws.{Once-ReadingInput, Once-ReadingPlan, input-gives, input-refused, plan-gives, plan-refused}
 use Rattle.statepoint_tool.proofs.RunLaws.{Once-Running, Once-RunningRewritten}
 use Rattle.statepoint_tool.proofs.JudgeLaws.{Once-checked_phase, Once-run_module_phase, passes, says_no, large, trusted_of, as-trusted, file-stops}
@@ -313,9 +314,9 @@ module _ (words : List (List ℕ)) (given : Given) where
   is_rewritten content after _ is (rewritten own own_is few) = subst (IsRewritten content) (same-value own after is) own_is
   is_rewritten content after _ is (has_too_many many) = absurd (not_both after (cause.Module TooManyRelocations) (sym is))
 
-  few_stops : (content : ModuleContent) → HasFewRelocates content → (reason : Cause) (step : Step ModuleContent) → step ≡ Stop reason → Rewriting content step → ⊥
+  few_stops : (content : ModuleContent) → ¬ HasManyRelocates content → (reason : Cause) (step : Step ModuleContent) → step ≡ Stop reason → Rewriting content step → ⊥
   few_stops content few reason _ is (rewritten own own_is own_few) = not_both own reason is
-  few_stops content few reason _ is (has_too_many many) = few_or_many content few many
+  few_stops content few reason _ is (has_too_many many) = few many
 
   -- the rewritten module runs over the stack map in a file
   given_map_explains : (reads : ReadsPlan words given) (name : List ℕ) (shows : Shows) → engine_asked reads ≡ Rewriter (Some name) shows → (step : Step Output) →
@@ -489,21 +490,39 @@ module _ (words : List (List ℕ)) (given : Given) where
   commanded_run : (asks : AsksForRun words) (step : Step Output) → run_work asks.engine asks.request given step → work words given step
   commanded_run asks step due = commanded_as asks.engine asks.request step asks.asked due
 
+  -- the work comes to a step of this status
+  abbrev pub ComesWith : Status → Type 0
+  ComesWith status = (step : Step Output) × work words given step × (status_of_step step ≡ status)
+
+  pub comes-NoCommand : NoCommand words given → ComesWith WordsRefused
+  comes-NoCommand none = (Stop cause.Words, commanded None (Stop cause.Words) none refl, refl)
+
+-- the text of the module that the words name is within the limit
+abbrev pub IsWithin : List (List ℕ) → Given → Type 0
+IsWithin words given = (form : TextForm) (name text : List ℕ) → NamesModule words form name → given.module_file ≡ Bytes text → length text ≤ 16777216
+
+module _ (words : List (List ℕ)) (given : Given) (within : IsWithin words given) where
+  -- the module that is to run is one of its form
+  pub module_is : (accepted : ReadsModule words given) → IsModuleOf (form_of accepted.asks.engine) (content_of (form_of accepted.asks.engine) accepted.lines)
+  module_is accepted =
+      let form = form_of accepted.asks.engine in
+      (module_of_accepted form accepted.text accepted.lines (within form accepted.asks.request.code accepted.text (to_run accepted.asks) accepted.taken) accepted.accepted).0
+
   with_module : (accepted : ReadsModule words given) (step : Step Output) →
       after_module accepted.asks.request.input accepted.asks.request.plan accepted.asks.engine (content_of (form_of accepted.asks.engine) accepted.lines) accepted.asks.request.steps
       (given.input, (given.plan, given.map_file)) step → work words given step
   with_module accepted step rest =
       let form = form_of accepted.asks.engine in
-      commanded_run accepted.asks step
+      commanded_run words given accepted.asks step
       (goes_on (module_of form accepted.lines) step
       (subst (λ (taken : Taken). file_phase accepted.asks.request.code (run_module_phase accepted.asks.engine) taken (Go (module_of form accepted.lines))) (sym accepted.taken)
       (goes_on (module_of form accepted.lines) (Go (module_of form accepted.lines)) (as-accepted form accepted.text accepted.lines accepted.accepted)
-      (as-trusted accepted.asks.engine (module_of form accepted.lines) accepted.trusted)))
+      (as-trusted accepted.asks.engine (module_of form accepted.lines) (module_is accepted) accepted.trusted)))
       rest)
 
   with_source : (reads : ReadsToRewrite words given) (step : Step Output) → Then (Rewriting (content_of text_forms.Source reads.lines)) (after_rewriting reads.asks.part) step → work words given step
   with_source reads step rest =
-      commanded (Some (Rewrite reads.asks.module_file reads.asks.part)) step reads.asks.command
+      commanded words given (Some (Rewrite reads.asks.module_file reads.asks.part)) step reads.asks.command
       (goes_on (module_of text_forms.Source reads.lines) step
       (subst (λ (taken : Taken). file_phase reads.asks.module_file (module_phase text_forms.Source) taken (Go (module_of text_forms.Source reads.lines))) (sym reads.taken)
       (as-accepted text_forms.Source reads.text reads.lines reads.accepted))
@@ -549,14 +568,14 @@ module _ (words : List (List ℕ)) (given : Given) where
   -- the work of a run is the source meaning, or the machine's run
   pub work-ends : (output : Output) → Ends words given output → work words given (Go output)
   work-ends _ (by_showing shows) =
-      commanded (Some (Show shows.asks.module_file)) (Go (shown (content_of text_forms.Source shows.lines))) shows.asks.command
+      commanded words given (Some (Show shows.asks.module_file)) (Go (shown (content_of text_forms.Source shows.lines))) shows.asks.command
       (goes_on (module_of text_forms.Source shows.lines) (Go (shown (content_of text_forms.Source shows.lines)))
       (subst (λ (taken : Taken). file_phase shows.asks.module_file (module_phase text_forms.Source) taken (Go (module_of text_forms.Source shows.lines))) (sym shows.taken)
       (as-accepted text_forms.Source shows.text shows.lines shows.accepted))
       refl)
   work-ends _ (by_checking checks) =
       let whole = module_of text_forms.Rewritten checks.lines in
-      commanded (Some (Check checks.asks.module_file)) (Go passed) checks.asks.command
+      commanded words given (Some (Check checks.asks.module_file)) (Go passed) checks.asks.command
       (goes_on whole (Go passed)
       (subst (λ (taken : Taken). file_phase checks.asks.module_file checked_phase taken (Go whole)) (sym checks.taken)
       (goes_on whole (Go whole) (as-accepted text_forms.Rewritten checks.text checks.lines checks.accepted) (verified checks.verified)))
@@ -572,27 +591,20 @@ module _ (words : List (List ℕ)) (given : Given) where
   work-ends _ (by_executing runs outcome text writes) =
       let output = ended_with text outcome.end in
       over_map_phase runs.reads (engine_asked runs.reads) refl runs.code runs.runs (Go output) (goes_on runs.map (Go output) runs.takes (executes outcome text writes))
-  work-ends output (by_generating asks _ generating) = commanded (Some (Gen asks.seed asks.size asks.steps)) (Go output) asks.command generating
+  work-ends output (by_generating asks _ generating) = commanded words given (Some (Gen asks.seed asks.size asks.steps)) (Go output) asks.command generating
 
-  -- the work comes to a step of this status
-  abbrev pub ComesWith : Status → Type 0
-  ComesWith status = (step : Step Output) × work words given step × (status_of_step step ≡ status)
-
-  pub comes-EndsWith : (status : Status) → EndsWith status words given → ComesWith status
+  pub comes-EndsWith : (status : Status) → EndsWith status words given → ComesWith words given status
   comes-EndsWith status ends = (Go ends.0, work-ends ends.0 ends.1, ends.2)
-
-  pub comes-NoCommand : NoCommand words given → ComesWith WordsRefused
-  comes-NoCommand none = (Stop cause.Words, commanded None (Stop cause.Words) none refl, refl)
 
   module_stops : (form : TextForm) (name : List ℕ) (reason : Cause) → NamesModule words form name → file_phase name (module_phase form) given.module_file (Stop reason) →
       work words given (Stop reason)
-  module_stops _ _ reason (to_show asks) stopped = commanded (Some (Show asks.module_file)) (Stop reason) asks.command (stops reason stopped)
-  module_stops _ _ reason (to_rewrite asks) stopped = commanded (Some (Rewrite asks.module_file asks.part)) (Stop reason) asks.command (stops reason stopped)
+  module_stops _ _ reason (to_show asks) stopped = commanded words given (Some (Show asks.module_file)) (Stop reason) asks.command (stops reason stopped)
+  module_stops _ _ reason (to_rewrite asks) stopped = commanded words given (Some (Rewrite asks.module_file asks.part)) (Stop reason) asks.command (stops reason stopped)
   module_stops _ _ reason (to_check asks) stopped =
-      commanded (Some (Check asks.module_file)) (Stop reason) asks.command
+      commanded words given (Some (Check asks.module_file)) (Stop reason) asks.command
       (stops reason (file-stops asks.module_file (module_phase text_forms.Rewritten) Judging given.module_file reason stopped))
   module_stops _ _ reason (to_run asks) stopped =
-      commanded_run asks (Stop reason)
+      commanded_run words given asks (Stop reason)
       (stops reason (file-stops asks.request.code (module_phase (form_of asks.engine)) (judged asks.engine) given.module_file reason stopped))
 
   large_stops : (name text : List ℕ) → NamesSource words name → given.module_file ≡ Bytes text → (lines : List Line) → IsAccepted text_forms.Source text lines
@@ -603,7 +615,7 @@ module _ (words : List (List ℕ)) (given : Given) where
   large_stops _ text (to_run_rewritten request map_file places trace is) taken lines accepted many =
       let reason = cause.Module TooManyRelocations in
       let whole = module_of text_forms.Source lines in
-      commanded (Some (Run request map_file places trace)) (Stop reason) is
+      commanded words given (Some (Run request map_file places trace)) (Stop reason) is
       (stops reason (subst (λ (t : Taken). file_phase request.code (run_module_phase (Rewriter map_file (showing places trace))) t (Stop reason)) (sym taken)
       (goes_on whole (Stop reason) (as-accepted text_forms.Source text lines accepted) (stops reason (has_too_many many)))))
 
@@ -614,7 +626,7 @@ module _ (words : List (List ℕ)) (given : Given) where
       (subst (λ (t : Taken). file_phase has.name (module_phase has.form) t (Stop reason)) (sym has.taken) (as-refused has.form has.text fault has.has))
   stops-HasModuleFault _ (too_many large) = large_stops large.name large.text large.names large.taken large.lines large.accepted large.many
 
-  pub comes-HasSomeModuleFault : HasSomeModuleFault words given → ComesWith ModuleRefused
+  pub comes-HasSomeModuleFault : HasSomeModuleFault words given → ComesWith words given ModuleRefused
   comes-HasSomeModuleFault has = (Stop (cause.Module has.0), stops-HasModuleFault has.0 has.1, refl)
 
   judge_stops : (name text : List ℕ) → NamesJudged words name → given.module_file ≡ Bytes text → (lines : List Line) → IsAccepted text_forms.Rewritten text lines → (fault : CheckFault)
@@ -622,22 +634,22 @@ module _ (words : List (List ℕ)) (given : Given) where
   judge_stops _ text (to_judge asks) taken lines accepted fault least =
       let reason = cause.Check fault in
       let whole = module_of text_forms.Rewritten lines in
-      commanded (Some (Check asks.module_file)) (Stop reason) asks.command
+      commanded words given (Some (Check asks.module_file)) (Stop reason) asks.command
       (stops reason (subst (λ (t : Taken). file_phase asks.module_file checked_phase t (Stop reason)) (sym taken)
       (goes_on whole (Stop reason) (as-accepted text_forms.Rewritten text lines accepted) (said_no fault least))))
   judge_stops _ text (to_run_judged request map_file places trace is) taken lines accepted fault least =
       let reason = cause.Check fault in
       let whole = module_of text_forms.Rewritten lines in
-      commanded (Some (Exec request map_file false places trace)) (Stop reason) is
+      commanded words given (Some (Exec request map_file false places trace)) (Stop reason) is
       (stops reason (subst (λ (t : Taken). file_phase request.code (run_module_phase (Machine map_file false (showing places trace))) t (Stop reason)) (sym taken)
       (goes_on whole (Stop reason) (as-accepted text_forms.Rewritten text lines accepted) (said_no fault least))))
 
-  pub comes-HasSomeCheckFault : HasSomeCheckFault words given → ComesWith CheckSaidNo
+  pub comes-HasSomeCheckFault : HasSomeCheckFault words given → ComesWith words given CheckSaidNo
   comes-HasSomeCheckFault has =
       let fault = has.1 in
       (Stop (cause.Check has.0), judge_stops fault.name fault.text fault.names fault.taken fault.lines fault.accepted has.0 fault.least, refl)
 
-  pub comes-HasSomeInputFault : HasSomeInputFault words given → ComesWith InputRefused
+  pub comes-HasSomeInputFault : HasSomeInputFault words given → ComesWith words given InputRefused
   comes-HasSomeInputFault has =
       let reason = cause.Input has.0 in
       let fault = has.1 in (
@@ -648,7 +660,7 @@ module _ (words : List (List ℕ)) (given : Given) where
         refl,
       )
 
-  pub comes-HasSomePlanFault : HasSomePlanFault words given → ComesWith PlanRefused
+  pub comes-HasSomePlanFault : HasSomePlanFault words given → ComesWith words given PlanRefused
   comes-HasSomePlanFault has =
       let reason = cause.Plan has.0 in
       let fault = has.1 in (
@@ -666,9 +678,9 @@ module _ (words : List (List ℕ)) (given : Given) where
   map_stops_by reads (Rewriter None shows) is name named reason stopped = absurd (none_named name named)
   map_stops_by reads (Rewriter (Some own) shows) is name named reason stopped =
       let few = subst (λ (e : Engine). IsTrusted e (module_run reads)) is reads.reads.accepts.trusted in
-      let after = rewritten_source few.reached in
+      let made = source_is_rewritten (module_run reads) (subst (λ (e : Engine). IsModuleOf (form_of e) (module_run reads)) is (module_is reads.reads.accepts)) in
       phase_by reads (Rewriter (Some own) shows) (Stop reason) is
-      (goes_on after (Stop reason) (rewritten after (record { reached = few.reached; drops = few.drops; rest = refl }) few)
+      (goes_on made.0 (Stop reason) (rewritten made.0 made.1 few)
       (stops reason (subst (λ (n : List ℕ). file_phase n ReadingMap given.map_file (Stop reason)) (sym (one_named own name named)) stopped)))
   map_stops_by reads (Machine None trust shows) is name named reason stopped = absurd (none_named name named)
   map_stops_by reads (Machine (Some own) trust shows) is name named reason stopped =
@@ -678,7 +690,7 @@ module _ (words : List (List ℕ)) (given : Given) where
   map_phase_stops : (reads : ReadsForMap words given) (reason : Cause) → file_phase reads.map_file ReadingMap given.map_file (Stop reason) → work words given (Stop reason)
   map_phase_stops reads reason stopped = map_stops_by reads.reads (engine_asked reads.reads) refl reads.map_file reads.named reason stopped
 
-  pub comes-HasSomeMapFault : HasSomeMapFault words given → ComesWith MapRefused
+  pub comes-HasSomeMapFault : HasSomeMapFault words given → ComesWith words given MapRefused
   comes-HasSomeMapFault has =
       let reason = cause.Map has.0 in
       let fault = has.1 in (
@@ -705,11 +717,11 @@ module _ (words : List (List ℕ)) (given : Given) where
       let name = reads.map_file in
       map_phase_stops reads (reason name) (subst (λ (t : Taken). file_phase name ReadingMap t (Stop (reason name))) (sym is) (stopping StackMap name ReadingMap))
 
-  pub comes-CannotRead : CannotRead words given → ComesWith ReadFault
+  pub comes-CannotRead : CannotRead words given → ComesWith words given ReadFault
   comes-CannotRead cannot =
       (Stop (cause.ReadFault cannot.0), file_stops Faulty cause.ReadFault (λ A name read. refl) cannot.0 cannot.1, refl)
 
-  pub comes-IsTooLong : IsTooLong words given → ComesWith TooLong
+  pub comes-IsTooLong : IsTooLong words given → ComesWith words given TooLong
   comes-IsTooLong long = (Stop (cause.TooLong long.0), file_stops Longer cause.TooLong (λ A name read. refl) long.0 long.1, refl)
 
 -- a file that could not be read had its fault counted
@@ -727,6 +739,9 @@ module _ (words : List (List ℕ)) (given : Given) (files : FilesSeen) (may : Ma
   may_of_module _ _ (to_rewrite asks) = subst (λ (command : Option Command). MayGiveNamed files command given) asks.command may
   may_of_module _ _ (to_check asks) = subst (λ (command : Option Command). MayGiveNamed files command given) asks.command may
   may_of_module _ _ (to_run asks) = (may_of_run asks).0
+
+  pub within_may : IsWithin words given
+  within_may form name text names is = within_given files name text given.module_file is (may_of_module form name names)
 
   rose_at : (name : List ℕ) (taken : Taken) → taken ≡ Faulty → MayGive files name taken → Rose (files.faults_before name) (files.faults_after name)
   rose_at name taken is gave = subst (λ (t : Taken). MayGive files name t) is gave

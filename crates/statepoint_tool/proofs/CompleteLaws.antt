@@ -1,15 +1,16 @@
 -- Completeness from the whole answer of a call.
 use Rattle.std.proofs.Common.{◌≡◌, ℕ, ◌<◌, ◌≤◌, length, ◌⊎◌, inl, inr, List, [], Option, Some, None, Result, Ok, Err, refl, sym, ap, subst, ◌∙◌, arith}
-use Rattle.std.specs.Prelude.{ℤ}
+use Rattle.std.specs.Prelude.{ℤ, IfSome}
 use Rattle.ir_ast.specs.Modules.{ModuleContent}
 use Rattle.move_plan.specs.declared.plan_lines.PlanLine.{PlanLine}
 use Rattle.statepoint_tool.specs.Answers.{SinkSeen, Gained, GainedFront, SinkFailed, Came, IsBegun, IsTold as IsToldOf, IsAnswer}
 use Rattle.tool_io.proofs.AppendLaws.{AppendsFront-all, AppendsFront-front}
-use Rattle.statepoint_tool.specs.Complete.{IsTold, MapIsTold, RunIsTold, AllTold, IsWhole, IsShort, WantsMemory, IsComplete}
+use Rattle.statepoint_tool.specs.Complete.{IsTold, FileIsTold, MapIsTold, RunIsTold, AllTold, IsWhole, IsShort, WantsMemory, IsComplete}
+use Rattle.statepoint_tool.specs.Causes.{Ends}
 use Rattle.statepoint_tool.specs.Steps.{Step, Go, Stop, Then, goes_on, stops}
 use Rattle.statepoint_tool.specs.Taken.{Taken, Bytes, Longer, Faulty, FilesSeen, MayGive}
 use Rattle.tool_words.specs.Words.{command_of}
-use Rattle.statepoint_tool.specs.Work.{Output, Given, MayGiveMap, MayGiveAll, MayGiveNamed, command_work, show_work, check_work, rewrite_work, run_phase, run_work, showing, work}
+use Rattle.statepoint_tool.specs.Work.{Output, Given, MayGiveFile, MayGiveMap, MayGiveAll, MayGiveNamed, command_work, map_named, show_work, check_work, rewrite_work, run_phase, run_work, showing, work}
 use Rattle.statepoint_tool.specs.declared.refusal.Refusal.{Refusal}
 use Rattle.statepoint_tool.specs.declared.refusal.Refusal.TheVariants.{Defined, WriteFault, Memory}
 use Rattle.statepoint_tool.specs.declared.engine.Engine.{Engine}
@@ -19,7 +20,8 @@ use Rattle.tool_words.specs.declared.request.Command.{Command}
 use Rattle.tool_words.specs.declared.request.Command.TheVariants.{Show, Rewrite, Check, Source, Run, Exec, Gen}
 use Rattle.statepoint_tool.specs.declared.status.Status.{Status}
 use Rattle.statepoint_tool.proofs.StepLaws.{not_both}
-use Rattle.statepoint_tool.proofs.CauseLaws.{Once-work, work-ends}
+use Rattle.statepoint_tool.proofs.CauseLaws.{IsWithin, Once-work, within_may, work-ends}
+use Rattle.statepoint_tool.proofs.EndsLaws.{faultless_ends}
 
 -- a told file gives what is told
 same_taken : (files : FilesSeen) (name : List ℕ) (given told : Taken) → MayGive files name given → IsTold files name told → given ≡ told
@@ -83,6 +85,29 @@ same_work files (Some (Exec request map_file trust places trace)) given told may
     same_run files (Machine map_file trust (showing places trace)) request given told may is step due
 same_work files (Some (Gen seed size steps)) given told may is step due = due
 
+-- a told file may have given what is told
+told_gives : (files : FilesSeen) (name : List ℕ) (given : Taken) → IsTold files name given → MayGive files name given
+told_gives files name given told =
+    subst (MayGive files name) (sym told.given_is) (told.within, subst (λ (contents : Option (List ℕ)). IfSome contents (λ (bytes : List ℕ). told.bytes ≡ bytes)) (sym told.told) refl)
+
+file_gives : (files : FilesSeen) (name : Option (List ℕ)) (given : Taken) → FileIsTold files name given → MayGiveFile files name given
+file_gives files None given told = told
+file_gives files (Some name) given told = told_gives files name given told
+
+run_gives : (files : FilesSeen) (engine : Engine) (request : RunRequest) (given : Given) → RunIsTold files engine request given → MayGiveAll files engine request given
+run_gives files engine request given told =
+    (told_gives files request.code given.module_file told.0, (told_gives files request.input given.input told.1, (told_gives files request.plan given.plan told.2, file_gives files (map_named engine) given.map_file told.3)))
+
+pub all_give : (files : FilesSeen) (command : Option Command) (given : Given) → AllTold files command given → MayGiveNamed files command given
+all_give files None given told = told
+all_give files (Some (Show module_file)) given told = told_gives files module_file given.module_file told
+all_give files (Some (Rewrite module_file part)) given told = told_gives files module_file given.module_file told
+all_give files (Some (Check module_file)) given told = told_gives files module_file given.module_file told
+all_give files (Some (Source request)) given told = run_gives files Meaning request given told
+all_give files (Some (Run request map_file places trace)) given told = run_gives files (Rewriter map_file (showing places trace)) request given told
+all_give files (Some (Exec request map_file trust places trace)) given told = run_gives files (Machine map_file trust (showing places trace)) request given told
+all_give files (Some (Gen seed size steps)) given told = told
+
 same_output : (one other : Output) → Go one ≡ Go other → one ≡ other
 same_output one other same = cc
 
@@ -115,8 +140,28 @@ module _ (words : List (List ℕ)) (given : Given) (output : Output) (due : work
   whole_or_short (Err WriteFault) came told sure_out = absurd (sure_out came.0)
   whole_or_short (Err Memory) came told sure_out = inr (record { wants_memory = wants_memory told; front = front_of came })
 
-pub IsComplete-answer : (words : List (List ℕ)) (files : FilesSeen) (out notes : SinkSeen) (status : Status) → IsAnswer words files out notes status → IsComplete words files out notes status
-IsComplete-answer words files out notes status answer told output all_told ends sure_out =
+-- whatever output the work comes to is written
+pub written_as : (words : List (List ℕ)) (files : FilesSeen) (out notes : SinkSeen) (status : Status) → IsAnswer words files out notes status
+    → (told : Given) (output : Output) → AllTold files (command_of words) told → Ends words told output → ¬ SinkFailed out
+    → IsWhole output status out notes ⊎ IsShort output status out notes
+written_as words files out notes status answer told output all_told ends sure_out =
     let given = answer.works.given in
-    let due : work words given (Go output) = same_work files (command_of words) given told answer.works.may all_told (Go output) (work-ends words told output ends) in
+    let within = within_may words told files (all_give files (command_of words) told all_told) in
+    let due : work words given (Go output) = same_work files (command_of words) given told answer.works.may all_told (Go output) (work-ends words told within output ends) in
     whole_or_short words given output due out notes status answer.ended answer.works.came answer.told sure_out
+
+-- and it comes to one
+pub one_output : (words : List (List ℕ)) (given : Given) → IsWithin words given → (one other : Output) → Ends words given one → Ends words given other → one ≡ other
+one_output words given within one other first second =
+    same_output one other (Once-work words given (Go one) (Go other) (work-ends words given within one first) (work-ends words given within other second))
+
+pub IsComplete-answer : (words : List (List ℕ)) (files : FilesSeen) (out notes : SinkSeen) (status : Status) → IsAnswer words files out notes status → IsComplete words files out notes status
+IsComplete-answer words files out notes status answer told all_told faultless sure_out =
+    let within = within_may words told files (all_give files (command_of words) told all_told) in
+    let found = faultless_ends words told within faultless in
+    record {
+      output = found.0;
+      ends = found.1;
+      only = λ other ends. one_output words told within other found.0 ends found.1;
+      written = written_as words files out notes status answer told found.0 all_told found.1 sure_out;
+    }

@@ -1,5 +1,5 @@
 -- What is known of a call, from its whole answer.
-use Rattle.std.proofs.Common.{◌≡◌, ◌⊎◌, ℕ, List, Option, Result, Ok, Err, OnOk, Global, inl, inr, subst}
+use Rattle.std.proofs.Common.{◌≡◌, ◌⊎◌, ℕ, List, Option, Result, Ok, Err, OnOk, inl, inr, subst}
 use Rattle.statepoint_tool.specs.Answers.{IsAnswer, IsTold, SinkSeen}
 use Rattle.statepoint_tool.specs.Facts.{Facts}
 use Rattle.statepoint_tool.specs.Named.{IsEnd}
@@ -15,17 +15,17 @@ use Rattle.statepoint_tool.proofs.CauseLaws.{comes-CannotRead, comes-EndsWith, c
 use Rattle.statepoint_tool.proofs.CompleteLaws.{IsComplete-answer}
 use Rattle.statepoint_tool.proofs.HeadlineLaws.{IsHeadline-answer, RunsVerified-answer, StrayIsAsked-answer}
 
-pub Facts-answer : Global → (words : List (List ℕ)) (files : FilesSeen) (out notes : SinkSeen) (ended : Status) → IsAnswer words files out notes ended → Facts words files out notes ended
-Facts-answer alloc words files out notes ended answer = record {
+pub Facts-answer : (words : List (List ℕ)) (files : FilesSeen) (out notes : SinkSeen) (ended : Status) → IsAnswer words files out notes ended → Facts words files out notes ended
+Facts-answer words files out notes ended answer = record {
   headline = IsHeadline-answer words files out notes ended answer;
-  verified_runs = RunsVerified-answer alloc words files out notes ended answer;
-  stray_asked = StrayIsAsked-answer alloc words files out notes ended answer;
+  verified_runs = RunsVerified-answer words files out notes ended answer;
+  stray_asked = StrayIsAsked-answer words files out notes ended answer;
   complete = IsComplete-answer words files out notes ended answer;
-  done = Exactly-answer words files out notes ended answer status.Done (λ clash. cc) (λ clash. cc) (λ given. comes-EndsWith words given status.Done);
-  out_of_steps = Exactly-answer words files out notes ended answer status.OutOfSteps (λ clash. cc) (λ clash. cc) (λ given. comes-EndsWith words given status.OutOfSteps);
-  trapped = Exactly-answer words files out notes ended answer status.Trapped (λ clash. cc) (λ clash. cc) (λ given. comes-EndsWith words given status.Trapped);
-  stray = Exactly-answer words files out notes ended answer status.Stray (λ clash. cc) (λ clash. cc) (λ given. comes-EndsWith words given status.Stray);
-  words_refused = Exactly-answer words files out notes ended answer status.WordsRefused (λ clash. cc) (λ clash. cc) (comes-NoCommand words);
+  done = Exactly-answer words files out notes ended answer status.Done (λ clash. cc) (λ clash. cc) (λ given within. comes-EndsWith words given within status.Done);
+  out_of_steps = Exactly-answer words files out notes ended answer status.OutOfSteps (λ clash. cc) (λ clash. cc) (λ given within. comes-EndsWith words given within status.OutOfSteps);
+  trapped = Exactly-answer words files out notes ended answer status.Trapped (λ clash. cc) (λ clash. cc) (λ given within. comes-EndsWith words given within status.Trapped);
+  stray = Exactly-answer words files out notes ended answer status.Stray (λ clash. cc) (λ clash. cc) (λ given within. comes-EndsWith words given within status.Stray);
+  words_refused = Exactly-answer words files out notes ended answer status.WordsRefused (λ clash. cc) (λ clash. cc) (λ given within. comes-NoCommand words given);
   module_refused = Exactly-answer words files out notes ended answer status.ModuleRefused (λ clash. cc) (λ clash. cc) (comes-HasSomeModuleFault words);
   input_refused = Exactly-answer words files out notes ended answer status.InputRefused (λ clash. cc) (λ clash. cc) (comes-HasSomeInputFault words);
   plan_refused = Exactly-answer words files out notes ended answer status.PlanRefused (λ clash. cc) (λ clash. cc) (comes-HasSomePlanFault words);

@@ -1,7 +1,6 @@
 -- The headline and what a yes of the verifier means, from the whole answer of a call.
-use Rattle.std.proofs.Common.{◌≡◌, ◌≤◌, ℕ, ◌⊎◌, inl, inr, List, [], length, Bool, true, false, Option, Some, None, Result, Ok, refl, sym, ap, subst, ◌∙◌, Global}
+use Rattle.std.proofs.Common.{◌≡◌, ◌≤◌, ℕ, ◌⊎◌, inl, inr, List, [], length, Bool, true, false, Option, Some, None, Result, Ok, refl, sym, ap, subst, ◌∙◌}
 use Rattle.std.specs.Prelude.{ℤ}
-use Rattle.std.specs.List.{concat}
 use Rattle.std.proofs.Math.Path.{fun_ext}
 use Rattle.sp_ids.specs.declared.ends.End.{End}
 use Rattle.sp_ids.specs.declared.ends.End.TheVariants as ended
@@ -26,14 +25,14 @@ use Rattle.runs_unseen.proofs.machine_ends.EndLaws.{each_run_ends}
 use Rattle.moves_unseen.specs.Statements.{IsSeen}
 use Rattle.moves_unseen.specs.Waits.{IsSound}
 use Rattle.runs_unseen.proofs.SeenRuns.{keeps_way, seen_here}
-use Rattle.run_texts.specs.RunTexts.{RunWritesQuiet, run_lines}
+use Rattle.run_texts.specs.RunTexts.{RunWritesQuiet}
 use Rattle.rewritten_runs.specs.ShownTexts.{IsShownText}
 use Rattle.rewritten_runs.proofs.shown_runs.SeenLaws.{quiet_is_whole, sources_are_shown, verified_are_shown}
 use Rattle.rewritten_runs.specs.Runs.{IsRunOnMachine}
 use Rattle.rewritten_runs.proofs.RunLaws.{sources_run_on_machine}
 use Rattle.sp_rewrite.specs.Statements.{IsRewritten}
 use Rattle.sp_rewrite.proofs.BareLaws.{no_bundle}
-use Rattle.sp_rewrite.proofs.RewrittenLaws.{rewriting_is_target, rewriting_is_verified, rewriting_keeps_meaning}
+use Rattle.sp_rewrite.proofs.RewrittenLaws.{few_unless_many, rewriting_is_target, rewriting_is_verified, rewriting_keeps_meaning}
 use Rattle.generated_forms.specs.Modules.{generated}
 use Rattle.gen_report.specs.Summaries.{summary_of}
 use Rattle.ir_machine.specs.declared.run.Shows.{Shows}
@@ -49,16 +48,17 @@ use Rattle.statepoint_tool.specs.Complete.{AllTold, IsWhole, IsShort}
 use Rattle.statepoint_tool.specs.Headline.{IsToRun, IsToRunSource, IsToRunVerified, EndsAs, WritesRun, text_alone, IsRunAsMeant, IsHeadline, IsVerifiedRun, RunsVerified, AsksToStray, on_trust, over_map, over_map_of_run, StrayIsAsked, IsSameProgram, PlansAreFree}
 use Rattle.statepoint_tool.specs.Statuses.{OverSome}
 use Rattle.statepoint_tool.specs.Steps.{Step, Go, goes_on}
-use Rattle.statepoint_tool.specs.Taken.{Taken, FilesSeen, file_phase}
+use Rattle.statepoint_tool.specs.Taken.{Taken, Bytes, FilesSeen, file_phase}
 use Rattle.statepoint_tool.specs.Work.{Given, Generating, generates, Output, MayGiveAll, MayGiveNamed, content_of, ended_with, form_of, map_named, map_phase, module_phase, rewrite_work, rewritten, showing, written_of}
 use Rattle.statepoint_tool.specs.declared.engine.Engine.{Engine}
 use Rattle.statepoint_tool.specs.declared.engine.Engine.TheVariants.{Meaning, Rewriter, Machine}
 use Rattle.statepoint_tool.specs.declared.status.Status.{Status}
 use Rattle.statepoint_tool.specs.declared.status.Status.TheVariants.{Done, Trapped, OutOfSteps, Stray, WantOfMemory, WriteFault}
-use Rattle.statepoint_tool.proofs.AcceptedLaws.{module_of_accepted, sound_of_accepted, within_given, within_told}
+use Rattle.statepoint_tool.proofs.AcceptedLaws.{module_of_accepted, same_bytes, sound_of_accepted, within_given, within_told}
 use Rattle.statepoint_tool.proofs.AnswerLaws.{Exactly-answer}
-use Rattle.statepoint_tool.proofs.CauseLaws.{Once-work, comes-EndsWith, work-ends}
-use Rattle.statepoint_tool.proofs.CompleteLaws.{IsComplete-answer}
+use Rattle.statepoint_tool.proofs.CauseLaws.{IsWithin, comes-EndsWith}
+use Rattle.statepoint_tool.proofs.CompleteLaws.{one_output, written_as}
+use Rattle.statepoint_tool.proofs.EndsLaws.{texted}
 use Rattle.statepoint_tool.proofs.StepLaws.{same-value}
 use Rattle.statepoint_tool.proofs.TextLaws.{as-accepted}
 
@@ -90,20 +90,6 @@ stray_end (ended.Trap trap) way is = cc
 stray_end ended.OutOfSteps way is = cc
 stray_end ended.Poison way is = way.0 refl
 stray_end ended.LostFrame way is = way.1 refl
-
--- ---- texts of runs over a module's own map
-
--- a run has a text
-record Texted (content : ModuleContent) (input : List ℤ) (plan : List PlanLine) (bound : ℕ) (places trace : Bool) (machine : MachineOutcome) : Type 0 where
-  text : List ℕ
-  writes : RunWritesQuiet content (map_of content) input plan bound places trace machine text
-
-texted : (content : ModuleContent) (input : List ℤ) (plan : List PlanLine) (bound : ℕ) (places trace : Bool) (machine : MachineOutcome) → MachineGives content (map_of content) input plan bound machine
-    → Texted content input plan bound places trace machine
-texted content input plan bound places trace machine gives = record {
-  text = concat (run_lines content (machinery_of content (map_of content) plan bound) places trace input gives.run.within [] machine.end gives.last.state);
-  writes = record { gives = gives; is = refl };
-}
 
 -- ---- the headline
 
@@ -147,10 +133,11 @@ module _ (words : List (List ℕ)) (given : Given) (places trace : Bool) (run : 
       → AllTold files (command_of words) given → ¬ SinkFailed out → IsRunAsMeant run status out notes
   as_meant files out notes status answer within told sure =
       let is = module_of_accepted text_forms.Source run.text run.lines within run.accepted in
+      let few = few_unless_many source is.0 run.known in
       let found = gives_some (source_setting source (go run.plan) run.request.steps) run.input in
       let moved : IsRunOnMachine source run.input run.plan run.request.steps found.outcome =
-      sources_run_on_machine source run.known.reached is.0 is.1 run.known.drops run.input run.plan run.request.steps found.outcome found.gives in
-      let own = texted moved.after run.input run.plan run.request.steps places trace moved.machine moved.gives in
+      sources_run_on_machine source few.reached is.0 is.1 few.drops run.input run.plan run.request.steps found.outcome found.gives in
+      let own = texted moved.after (map_of moved.after) run.input run.plan run.request.steps places trace moved.machine moved.gives in
       let runs : RunsRewritten words given = record {
         reads = source_reads;
         shows = showing places trace;
@@ -163,7 +150,7 @@ module _ (words : List (List ℕ)) (given : Given) (places trace : Bool) (run : 
         text = own.text;
         writes = own.writes;
       } in
-      let whole = IsComplete-answer words files out notes status answer given (ended_with own.text found.outcome.end) told (by_running_rewritten runs) sure in
+      let whole = written_as words files out notes status answer given (ended_with own.text found.outcome.end) told (by_running_rewritten runs) sure in
       let sound : IsSound moved.after = record {
         target = rewriting_is_target source moved.after is.0 moved.rewritten;
         bundles = no_bundle source moved.after moved.rewritten is.1;
@@ -226,8 +213,8 @@ module _ (words : List (List ℕ)) (given : Given) (places trace : Bool) (run : 
   abbrev executes : Executes words given
   executes = record { reads = target_reads; code = target; runs = refl; map = map_of target; takes = refl }
 
-  own_sound : Global → length run.text ≤ 16777216 → IsSound target
-  own_sound alloc within = sound_of_accepted alloc run.text run.lines within run.accepted run.known
+  own_sound : length run.text ≤ 16777216 → IsSound target
+  own_sound within = sound_of_accepted run.text run.lines within run.accepted run.known
 
   -- the only output of a run of a verified module
   record OwnOutput : Type 0 where
@@ -241,12 +228,12 @@ module _ (words : List (List ℕ)) (given : Given) (places trace : Bool) (run : 
     final : IsFinal meant.end
     ends : Ends words given (ended_with text meant.end)
 
-  own_output : Global → length run.text ≤ 16777216 → OwnOutput
-  own_output alloc within =
+  own_output : length run.text ≤ 16777216 → OwnOutput
+  own_output within =
       let ended = each_run_ends (machinery_of target (map_of target) run.plan run.request.steps) run.input in
-      let sound = own_sound alloc within in
+      let sound = own_sound within in
       let found = seen_here target sound run.input run.plan run.request.steps ended.outcome ended.gives in
-      let own = texted target run.input run.plan run.request.steps places trace ended.outcome ended.gives in
+      let own = texted target (map_of target) run.input run.plan run.request.steps places trace ended.outcome ended.gives in
       record {
         meant = found.outcome;
         means = found.gives;
@@ -259,11 +246,11 @@ module _ (words : List (List ℕ)) (given : Given) (places trace : Bool) (run : 
         ends = subst (λ (end : End). Ends words given (ended_with own.text end)) found.seen.end (by_executing executes ended.outcome own.text own.writes);
       }
 
-  verified_run : Global → (files : FilesSeen) (out notes : SinkSeen) (status : Status) → IsAnswer words files out notes status → length run.text ≤ 16777216
+  verified_run : (files : FilesSeen) (out notes : SinkSeen) (status : Status) → IsAnswer words files out notes status → length run.text ≤ 16777216
       → AllTold files (command_of words) given → ¬ SinkFailed out → IsVerifiedRun run status out notes
-  verified_run alloc files out notes status answer within told sure =
-      let own = own_output alloc within in
-      let whole = IsComplete-answer words files out notes status answer given (ended_with own.text own.meant.end) told own.ends sure in
+  verified_run files out notes status answer within told sure =
+      let own = own_output within in
+      let whole = written_as words files out notes status answer given (ended_with own.text own.meant.end) told own.ends sure in
       record {
         meant = own.meant;
         means = own.means;
@@ -275,20 +262,20 @@ module _ (words : List (List ℕ)) (given : Given) (places trace : Bool) (run : 
         machine_writes = quiet_is_whole target run.input run.plan run.request.steps places trace own.machine own.text own.writes;
       }
 
-pub RunsVerified-answer : Global → (words : List (List ℕ)) (files : FilesSeen) (out notes : SinkSeen) (status : Status) → IsAnswer words files out notes status → RunsVerified words files out notes status
-RunsVerified-answer alloc words files out notes status answer given places trace told run sure =
+pub RunsVerified-answer : (words : List (List ℕ)) (files : FilesSeen) (out notes : SinkSeen) (status : Status) → IsAnswer words files out notes status → RunsVerified words files out notes status
+RunsVerified-answer words files out notes status answer given places trace told run sure =
     let told_run = subst (λ (command : Option Command). AllTold files command given) run.asks told in
-    verified_run words given places trace run alloc files out notes status answer (within_told files run.request.code run.text given.module_file run.taken told_run.0) told sure
+    verified_run words given places trace run files out notes status answer (within_told files run.request.code run.text given.module_file run.taken told_run.0) told sure
 
 -- ---- runs that go astray
 
 -- a module that is verified and runs over its own map
-sound_if : Global → (engine : Engine) (shows : Shows) → engine ≡ Machine None false shows → (text : List ℕ) (lines : List Line) → length text ≤ 16777216 → IsAccepted (form_of engine) text lines
+sound_if : (engine : Engine) (shows : Shows) → engine ≡ Machine None false shows → (text : List ℕ) (lines : List Line) → length text ≤ 16777216 → IsAccepted (form_of engine) text lines
     → IsTrusted engine (content_of (form_of engine) lines) → IsSound (content_of (form_of engine) lines)
-sound_if alloc Meaning shows is text lines within accepted trusted = absurd (let clash : Meaning ≡ Machine None false shows = is in cc)
-sound_if alloc (Rewriter map_file own) shows is text lines within accepted trusted = absurd (let clash : Rewriter map_file own ≡ Machine None false shows = is in cc)
-sound_if alloc (Machine map_file true own) shows is text lines within accepted trusted = absurd (let clash : Machine map_file true own ≡ Machine None false shows = is in cc)
-sound_if alloc (Machine map_file false own) shows is text lines within accepted trusted = sound_of_accepted alloc text lines within accepted trusted
+sound_if Meaning shows is text lines within accepted trusted = absurd (let clash : Meaning ≡ Machine None false shows = is in cc)
+sound_if (Rewriter map_file own) shows is text lines within accepted trusted = absurd (let clash : Rewriter map_file own ≡ Machine None false shows = is in cc)
+sound_if (Machine map_file true own) shows is text lines within accepted trusted = absurd (let clash : Machine map_file true own ≡ Machine None false shows = is in cc)
+sound_if (Machine map_file false own) shows is text lines within accepted trusted = sound_of_accepted text lines within accepted trusted
 
 not_done : Done ≡ Stray → ⊥
 not_done is = cc
@@ -296,7 +283,7 @@ not_done is = cc
 same_map : (one other : StackMap) → Go one ≡ Go other → one ≡ other
 same_map one other is = cc
 
-module _ (words : List (List ℕ)) (given : Given) (files : FilesSeen) (may : MayGiveNamed files (command_of words) given) (alloc : Global) where
+module _ (words : List (List ℕ)) (given : Given) (files : FilesSeen) (may : MayGiveNamed files (command_of words) given) where
   may_as : (engine : Engine) (request : RunRequest) → IsAskedFor words engine request → MayGiveAll files engine request given
   may_as _ _ (by_source request is) = subst (λ (command : Option Command). MayGiveNamed files command given) is may
   may_as _ _ (by_run request map_file places trace is) = subst (λ (command : Option Command). MayGiveNamed files command given) is may
@@ -322,7 +309,7 @@ module _ (words : List (List ℕ)) (given : Given) (files : FilesSeen) (may : Ma
       → (shows : Shows) → engine_asked runs.reads ≡ Machine None false shows → (outcome.end ≡ ended.Poison → ⊥) × (outcome.end ≡ ended.LostFrame → ⊥)
   keeps_way_if runs outcome gives shows is =
       let accepts = runs.reads.reads.accepts in
-      let sound = sound_if alloc accepts.asks.engine shows is accepts.text accepts.lines (text_within runs.reads) accepts.accepted accepts.trusted in
+      let sound = sound_if accepts.asks.engine shows is accepts.text accepts.lines (text_within runs.reads) accepts.accepted accepts.trusted in
       let same : runs.code ≡ module_run runs.reads = subst (λ (e : Engine). IsExecuted e (module_run runs.reads) runs.code) is runs.runs in
       let takes : map_phase runs.code None given.map_file (Go runs.map) = subst (λ (e : Engine). map_phase runs.code (map_named e) given.map_file (Go runs.map)) is runs.takes in
       let own = subst (λ (m : StackMap). MachineGives runs.code m runs.reads.reads.numbers runs.reads.plan (steps_asked runs.reads) outcome) (same_map runs.map (map_of runs.code) takes) gives in
@@ -347,10 +334,10 @@ module _ (words : List (List ℕ)) (given : Given) (files : FilesSeen) (may : Ma
           let made = ended_with (summary_of (generated asks.seed asks.size) after meant) meant.end in
           not_stray meant.end (gives_final _ [] meant means) (ap (λ (o : Output). o.status) (same-value made output same) ∙ is)
 
-pub StrayIsAsked-answer : Global → (words : List (List ℕ)) (files : FilesSeen) (out notes : SinkSeen) (status : Status) → IsAnswer words files out notes status → StrayIsAsked words status
-StrayIsAsked-answer alloc words files out notes status answer is =
-    let found = (Exactly-answer words files out notes status answer Stray (λ clash. cc) (λ clash. cc) (λ given. comes-EndsWith words given Stray)).only is in
-    stray_asked words found.given files found.may alloc found.holds.0 found.holds.1 found.holds.2
+pub StrayIsAsked-answer : (words : List (List ℕ)) (files : FilesSeen) (out notes : SinkSeen) (status : Status) → IsAnswer words files out notes status → StrayIsAsked words status
+StrayIsAsked-answer words files out notes status answer is =
+    let found = (Exactly-answer words files out notes status answer Stray (λ clash. cc) (λ clash. cc) (λ given within. comes-EndsWith words given within Stray)).only is in
+    stray_asked words found.given files found.may found.holds.0 found.holds.1 found.holds.2
 
 -- ---- plans with the same `go` lines
 
@@ -379,20 +366,20 @@ same_gives one other input other_input go_line other_line bound other_bound mean
     let by_steps = subst (λ (n : ℕ). TargetGives other other_input other_line n meant) steps by_lines in
     gives_one (target_setting other other_line other_bound) other_input other_meant meant again by_steps
 
-one_output : (words : List (List ℕ)) (given : Given) (one other : Output) → Ends words given one → Ends words given other → one ≡ other
-one_output words given one other first second =
-    let both : Go one ≡ Go other = Once-work words given (Go one) (Go other) (work-ends words given one first) (work-ends words given other second) in cc
+within_of : (words : List (List ℕ)) (given : Given) (text : List ℕ) → given.module_file ≡ Bytes text → length text ≤ 16777216 → IsWithin words given
+within_of words given text taken small form name other names is = subst (λ (t : List ℕ). length t ≤ 16777216) (same_bytes text other (sym taken ∙ is)) small
 
-pub plans_are_free : Global → PlansAreFree
-plans_are_free alloc words other_words given other places trace other_places other_trace one two within text input steps lines output other_output ends other_ends =
-    let first = own_output words given places trace one alloc within in
-    let second = own_output other_words other other_places other_trace two alloc (subst (λ (t : List ℕ). length t ≤ 16777216) text within) in
+pub plans_are_free : PlansAreFree
+plans_are_free words other_words given other places trace other_places other_trace one two within text input steps lines output other_output ends other_ends =
+    let first = own_output words given places trace one within in
+    let other_within = subst (λ (t : List ℕ). length t ≤ 16777216) text within in
+    let second = own_output other_words other other_places other_trace two other_within in
     let same_code : target words given places trace one ≡ target other_words other other_places other_trace two =
     ap (content_of text_forms.Rewritten) (same_lines one.text two.text one.lines two.lines text one.accepted two.accepted) in
     let same : second.meant ≡ first.meant =
     same_gives _ _ one.input two.input (go one.plan) (go two.plan) one.request.steps two.request.steps first.meant second.meant same_code input (fun_ext lines) steps first.means second.means in
-    let own : ended_with first.text first.meant.end ≡ output = one_output words given _ output first.ends ends in
-    let again : ended_with second.text second.meant.end ≡ other_output = one_output other_words other _ other_output second.ends other_ends in
+    let own : ended_with first.text first.meant.end ≡ output = one_output words given (within_of words given one.text one.taken within) _ output first.ends ends in
+    let again : ended_with second.text second.meant.end ≡ other_output = one_output other_words other (within_of other_words other two.text two.taken other_within) _ other_output second.ends other_ends in
     record {
       meant = first.meant;
       shown = subst (λ (o : Output). IsShownText (target words given places trace one) one.plan places trace first.meant o.text) own first.shown;

@@ -2,8 +2,9 @@
 use Rattle.std.proofs.Common.{◌≡◌, ◌∙◌, inl, inr, ℕ, Bool, true, false, List, Option, refl, sym, ap, subst, arith}
 use Rattle.ir_ast.specs.declared.modules.Form.TheVariants as text_forms
 use Rattle.ir_ast.specs.Modules.{LinedModule, ModuleContent}
-use Rattle.rewritten_sound.specs.Definite.{rewritten_source}
-use Rattle.sp_rewrite.specs.Relocates.{HasFewRelocates, HasManyRelocates}
+use Rattle.ir_cfg.specs.TypedModules.{IsModuleOf}
+use Rattle.sp_rewrite.specs.Relocates.{HasManyRelocates}
+use Rattle.sp_rewrite.proofs.RewrittenLaws.{source_is_rewritten}
 use Rattle.ir_lines.specs.Statements.{Line}
 use Rattle.ir_lines.specs.Modules.{module_of}
 use Rattle.pair_facts.specs.Faults.{IsVerified, IsNoLater, IsLeastFault}
@@ -104,7 +105,7 @@ pub record GoesOn (engine : Engine) (whole after : LinedModule) : Type 0 where
   pub is : after ≡ whole
   pub trusted : IsTrusted engine whole.content
 
-few_by : (content : ModuleContent) (step : Step ModuleContent) (after : ModuleContent) → step ≡ Go after → Rewriting content step → HasFewRelocates content
+few_by : (content : ModuleContent) (step : Step ModuleContent) (after : ModuleContent) → step ≡ Go after → Rewriting content step → ¬ HasManyRelocates content
 few_by content _ after is (rewritten own own_is few) = few
 few_by content _ after is (too_many many) = absurd (not_both after (Module TooManyRelocations) (sym is))
 
@@ -119,11 +120,12 @@ trusted_of (Rewriter map_file shows) whole after phase = goes_rewritten map_file
 trusted_of (Machine map_file true shows) whole after same = record { is = same-value after whole same; trusted = tt }
 trusted_of (Machine map_file false shows) whole after judging = let found = passes whole after judging in record { is = found.is; trusted = found.verified }
 
-pub as-trusted : (engine : Engine) (whole : LinedModule) → IsTrusted engine whole.content → judged engine whole (Go whole)
-as-trusted Meaning whole trusted = refl
-as-trusted (Rewriter map_file shows) whole few = goes_on (rewritten_source few.reached) (Go whole) (rewritten (rewritten_source few.reached) (record { reached = few.reached; drops = few.drops; rest = refl }) few) refl
-as-trusted (Machine map_file true shows) whole trusted = refl
-as-trusted (Machine map_file false shows) whole trusted = verified trusted
+-- a module of the form that the engine runs goes on where it is trusted: a source module has a rewritten module
+pub as-trusted : (engine : Engine) (whole : LinedModule) → IsModuleOf (form_of engine) whole.content → IsTrusted engine whole.content → judged engine whole (Go whole)
+as-trusted Meaning whole is trusted = refl
+as-trusted (Rewriter map_file shows) whole is few = (let made = source_is_rewritten whole.content is in goes_on made.0 (Go whole) (rewritten made.0 made.1 few) refl)
+as-trusted (Machine map_file true shows) whole is trusted = refl
+as-trusted (Machine map_file false shows) whole is trusted = verified trusted
 
 -- a module that is to be rewritten stops where it would have too many relocates
 pub record IsLarge (whole : LinedModule) (cause : Cause) : Type 0 where

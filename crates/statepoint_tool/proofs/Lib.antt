@@ -13,8 +13,9 @@ pub mod MachineLaws
 pub mod RunLaws
 pub mod CauseLaws
 pub mod AnswerLaws
-pub mod CompleteLaws
 pub mod AcceptedLaws
+pub mod EndsLaws
+pub mod CompleteLaws
 pub mod HeadlineLaws
 pub mod FactLaws
 pub mod SureLaws

@@ -4,7 +4,7 @@ use Rattle.tool_io.proofs.CountLaws.{Rose-zero-absurd}
 use Rattle.tool_words.specs.Words.{command_of}
 use Rattle.statepoint_tool.specs.Answers.{SinkSeen, sink_seen}
 use Rattle.statepoint_tool.specs.Causes.{Ends}
-use Rattle.statepoint_tool.specs.Complete.{AllTold, IsWhole, IsShort}
+use Rattle.statepoint_tool.specs.Complete.{AllTold, HasEnded, IsFaultless, IsWhole, IsShort}
 use Rattle.statepoint_tool.specs.Facts.{Facts}
 use Rattle.statepoint_tool.specs.Statuses.{ReadFaultCounted}
 use Rattle.statepoint_tool.specs.Taken.{FilesSeen, files_seen}
@@ -36,9 +36,8 @@ module _ (words : List (List ℕ)) (contents : List ℕ → Option (List ℕ)) (
     | inr failed ↦ absurd (no_write_fault failed.0)
   ]
 
-  pub complete_or_memory : (given : Given) (output : Output) → AllTold (sure_files contents) (command_of words) given → Ends words given output
-      → (ended ≡ output.status) ⊎ (ended ≡ status.WantOfMemory)
-  complete_or_memory given output told ends = elim (facts.complete given output told ends (λ rose. Rose-zero-absurd rose)) [
-    | inl whole ↦ inl whole.status_is
-    | inr short ↦ inr (short_wants output short)
-  ]
+  pub complete_or_memory : (given : Given) → AllTold (sure_files contents) (command_of words) given → IsFaultless words given
+      → (output : Output) × Ends words given output × ((ended ≡ output.status) ⊎ (ended ≡ status.WantOfMemory))
+  complete_or_memory given told faultless =
+      let done : HasEnded words given ended (sure_sink old new) (sure_sink old_notes new_notes) = facts.complete given told faultless (λ rose. Rose-zero-absurd rose) in
+      (done.output, done.ends, elim done.written [ inl whole ↦ inl whole.status_is | inr short ↦ inr (short_wants done.output short) ])

@@ -59,10 +59,6 @@ Once-module_phase form text = Once-Then (reading form text) (Typing form) (Once-
 
 -- ---- the lines of a text
 
-pub lines_of-seen : (xs : List NumberedReading) → lines_of (map seen_numbered xs) ≡ seen_lines xs
-lines_of-seen [] = refl
-lines_of-seen (x ∷ xs) = ap (λ (ls : List Line). seen_line x ∷ ls) (lines_of-seen xs)
-
 -- what the typer answers
 pub typed-go : (form : TextForm) (lines : List Line) (whole : LinedModule) → IsTypedAs form lines whole → Typing form lines (Go whole)
 typed-go form lines whole typed = subst (λ (w : LinedModule). Typing form lines (Go w)) (sym typed.is) (faultless typed.faultless)

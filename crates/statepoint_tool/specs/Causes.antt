@@ -10,7 +10,7 @@ use Rattle.ir_ast.specs.Modules.{ModuleContent, LinedModule}
 use Rattle.ir_lines.specs.Modules.{module_of}
 use Rattle.pair_facts.specs.Faults.{IsVerified, IsLeastFault as IsLeastCheckFault}
 use Rattle.statepoint_verify.specs.declared.faults.Fault.{Fault as CheckFault}
-use Rattle.sp_rewrite.specs.Relocates.{HasFewRelocates, HasManyRelocates}
+use Rattle.sp_rewrite.specs.Relocates.{HasManyRelocates}
 use Rattle.sp_rewrite.specs.Statements.{IsRewritten}
 use Rattle.move_plan.specs.declared.plan_lines.PlanLine.{PlanLine}
 use Rattle.move_plan.specs.Inputs.{HasNoInputFault, IsFirstInputFault, IsInputOf}
@@ -121,7 +121,7 @@ pub record Rewrites (words : List (List ℕ)) (given : Given) : Type 0 where
   pub reads : ReadsToRewrite words given
   pub after : ModuleContent
   pub is : IsRewritten (content_of text_forms.Source reads.lines) after
-  pub few : HasFewRelocates (content_of text_forms.Source reads.lines)
+  pub few : ¬ HasManyRelocates (content_of text_forms.Source reads.lines)
 
 -- the module to be checked is accepted, and has no fault of the verifier
 pub record Checks (words : List (List ℕ)) (given : Given) : Type 0 where
@@ -132,10 +132,10 @@ pub record Checks (words : List (List ℕ)) (given : Given) : Type 0 where
   pub accepted : IsAccepted text_forms.Rewritten text lines
   pub verified : IsVerified (content_of text_forms.Rewritten lines)
 
--- a module that is to be rewritten has few relocates, and a rewritten one that isn't trusted has no fault of the verifier
+-- a module that is to be rewritten hasn't too many relocates, and a rewritten one that isn't trusted has no fault of the verifier
 abbrev pub IsTrusted : Engine → ModuleContent → Type 0
 IsTrusted Meaning content = ⊤
-IsTrusted (Rewriter map_file shows) content = HasFewRelocates content
+IsTrusted (Rewriter map_file shows) content = ¬ HasManyRelocates content
 IsTrusted (Machine map_file true shows) content = ⊤
 IsTrusted (Machine map_file false shows) content = IsVerified content
 

@@ -1,12 +1,16 @@
--- What the command `rewrite` writes, the command `check` takes.
+-- What is proved of commands: each comes to one step, and what the command `rewrite` writes, the command `check` takes.
 use Rattle.std.specs.Prelude.{◌≡◌, ◌≤◌, ℕ, List, length, Some}
 use Rattle.tool_words.specs.Words.{command_of}
 use Rattle.tool_words.specs.declared.request.Command.TheVariants.{Rewrite}
 use Rattle.tool_words.specs.declared.request.Part.TheVariants.{Text}
 use Rattle.statepoint_tool.specs.Causes.{Ends}
-use Rattle.statepoint_tool.specs.Steps.{Go}
+use Rattle.statepoint_tool.specs.Steps.{Step, Go}
 use Rattle.statepoint_tool.specs.Taken.{Bytes, FilesSeen}
-use Rattle.statepoint_tool.specs.Work.{Given, MayGiveNamed, Output, check_work, passed}
+use Rattle.statepoint_tool.specs.Work.{Given, MayGiveNamed, Output, check_work, passed, work}
+
+-- the work comes to one output or one cause at most
+abbrev pub WorkIsOne : Type 0
+WorkIsOne = (words : List (List ℕ)) (given : Given) (one other : Step Output) → work words given one → work words given other → one ≡ other
 
 -- the words ask for the text of a rewritten module
 pub record AsksForText (words : List (List ℕ)) : Type 0 where

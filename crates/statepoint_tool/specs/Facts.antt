@@ -19,8 +19,8 @@ pub record Facts (words : List (List ℕ)) (files : FilesSeen) (out notes : Sink
   -- on objects that never move, whatever the plan moves; and only a run that is trusted, or over a given map, goes astray.
   pub verified_runs : RunsVerified words files out notes status
   pub stray_asked : StrayIsAsked words status
-  -- Told files without fault, and no fault counted: the whole text that is defined, the module's or the run's, with its
-  -- status and nothing said; or want of memory after a front of that text.
+  -- Told files without fault, and no fault counted: the work comes to one end. The whole text that is defined, the module's or the
+  -- run's, with its status and nothing said; or want of memory after a front of that text.
   pub complete : IsComplete words files out notes status
   -- Each status with its cause.
   pub done : Exactly words files out notes status Done (EndsWith Done)

@@ -24,7 +24,7 @@ use Rattle.run_texts.specs.RunTexts.{RunWrites}
 use Rattle.rewritten_runs.specs.ShownTexts.{IsShownText}
 use Rattle.moves_unseen.specs.Statements.{IsSeen}
 use Rattle.rewritten_runs.specs.Runs.{IsRunOnMachine}
-use Rattle.sp_rewrite.specs.Relocates.{HasFewRelocates}
+use Rattle.sp_rewrite.specs.Relocates.{HasManyRelocates}
 use Rattle.tool_words.specs.Words.{command_of}
 use Rattle.tool_words.specs.declared.request.Command.{Command}
 use Rattle.tool_words.specs.declared.request.Command.TheVariants.{Run, Exec}
@@ -62,10 +62,11 @@ pub record IsToRun (words : List (List ℕ)) (given : Given) (command : RunReque
   pub plan_is : IsPlanOf plan_text plan
   pub plan_faultless : HasNoPlanFault plan_text
 
--- `run` is to run a source module, whose rewritten module has no more relocates than may be, over that module's own stack map, and to
--- show places and trace or not
+-- `run` is to run a source module, but for one that has too many relocates, over its rewritten module's own stack map, and to show places
+-- and trace or not
 abbrev pub IsToRunSource : List (List ℕ) → Given → (places trace : Bool) → Type 0
-IsToRunSource words given places trace = IsToRun words given (λ request. Run request None places trace) text_forms.Source HasFewRelocates
+IsToRunSource words given places trace = IsToRun words given (λ request. Run request None places trace) text_forms.Source
+    (λ content. ¬ HasManyRelocates content)
 
 -- `exec` is to run a rewritten module in which the verifier finds no fault, over that module's own stack map, and to show likewise
 abbrev pub IsToRunVerified : List (List ℕ) → Given → (places trace : Bool) → Type 0

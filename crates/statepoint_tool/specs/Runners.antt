@@ -5,7 +5,7 @@ use Rattle.ir_ast.specs.Bundles.{HasNoBundle}
 use Rattle.ir_ast.specs.Modules.{ModuleContent, LinedModule}
 use Rattle.ir_cfg.specs.SourceModules.{IsSourceModule}
 use Rattle.ir_cfg.specs.TargetModules.{IsTargetModule}
-use Rattle.sp_rewrite.specs.Relocates.{HasFewRelocates}
+use Rattle.sp_rewrite.specs.Relocates.{HasManyRelocates}
 use Rattle.sp_rewrite.specs.Statements.{IsRewritten}
 use Rattle.statepoint_tool.specs.declared.engine.Engine.{Engine}
 use Rattle.statepoint_tool.specs.declared.engine.Engine.TheVariants as engines
@@ -38,7 +38,7 @@ pub record IsRewrittenOf (content after : ModuleContent) : Type 0 where
   pub source : IsSourceModule content
   pub bundles : All HasNoBundle content.funcs
   pub rewritten : IsRewritten content after
-  pub few : HasFewRelocates content
+  pub few : ¬ HasManyRelocates content
   pub executable : IsExecutable after
 
 pub record IsItself (content whole : ModuleContent) : Type 0 where

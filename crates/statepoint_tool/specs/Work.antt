@@ -19,7 +19,7 @@ use Rattle.map_bytes.specs.Faults.{IsFirstFault}
 use Rattle.map_bytes.specs.declared.rules.MapFault.{MapFault}
 use Rattle.stackmap_write.specs.ModuleMaps.{map_of}
 use Rattle.tool_report.specs.MapTexts.{text_of_map}
-use Rattle.sp_rewrite.specs.Relocates.{HasFewRelocates, HasManyRelocates}
+use Rattle.sp_rewrite.specs.Relocates.{HasManyRelocates}
 use Rattle.sp_rewrite.specs.Statements.{IsRewritten}
 use Rattle.move_plan.specs.declared.plan_lines.PlanLine.{PlanLine}
 use Rattle.move_plan.specs.Inputs.{HasNoInputFault, IsFirstInputFault, IsInputOf}
@@ -118,9 +118,9 @@ pub data Judging (whole : LinedModule) : Step LinedModule → Type 0 where
   verified : IsVerified whole.content → Judging whole (Go whole)
   said_no : (fault : CheckFault) → IsLeastCheckFault whole fault.line fault.code → Judging whole (Stop (CheckSays fault))
 
--- rewriting a module: its rewritten module, or that this would have too many relocates
+-- rewriting a module: its rewritten module, unless that would have too many relocates
 pub data Rewriting (content : ModuleContent) : Step ModuleContent → Type 0 where
-  rewritten : (after : ModuleContent) → IsRewritten content after → HasFewRelocates content → Rewriting content (Go after)
+  rewritten : (after : ModuleContent) → IsRewritten content after → ¬ HasManyRelocates content → Rewriting content (Go after)
   too_many : HasManyRelocates content → Rewriting content (Stop (Module TooManyRelocations))
 
 -- the form of the modules that an engine runs

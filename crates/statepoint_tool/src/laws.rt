@@ -1,10 +1,13 @@
-//! What a yes of the verifier means to two runs. No code.
+//! That a command's work comes to one step, and what a yes of the verifier means to two runs. No code.
+ghost use Rattle.statepoint_tool.specs.Commands.{WorkIsOne};
 ghost use Rattle.statepoint_tool.specs.Headline.{PlansAreFree};
 
-use std::alloc::Global;
+/// Whatever the files gave, the work that the words ask for comes to one output or one cause at most.
+pub fn one_work()
+    ensures { WorkIsOne }
+{}
 
 /// Under two plans with the same `go` lines `exec` of a verified module over its own stack map writes the same and ends the same.
-/// The readings of a rewritten text hold vectors, so that it takes an allocator.
-pub fn plans_are_free(_alloc: Global)
+pub fn plans_are_free()
     ensures { PlansAreFree }
 {}

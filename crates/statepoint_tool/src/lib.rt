@@ -4,6 +4,7 @@
 mod closing;
 mod engine;
 mod generate;
+mod job;
 mod judging;
 mod laws;
 mod machine;
@@ -20,7 +21,7 @@ mod status;
 mod sure;
 mod top;
 
-pub use laws::plans_are_free;
+pub use laws::{one_work, plans_are_free};
 pub use passes::{
     accepted_texts_pass, rewritten_texts_pass, verifier_refuses_none, written_texts_are_ok,
 };

@@ -18,14 +18,14 @@ ghost use Rattle.statepoint_tool.specs.Taken.{files_seen, file_phase, MayGive};
 ghost use Rattle.statepoint_tool.specs.Work.{Executing, MayGiveFile, ReadingMap, map_phase};
 
 use crate::closing::status_of;
+use crate::job::Job;
 use crate::maps::map_of_module;
 use crate::phases::take;
 use crate::refusal::{Cause, Refusal};
 use crate::runner::Executable;
 use crate::status::Status;
-use ir_machine::{Ran, RunFault, Shows, SureFault, run_any, run_verified};
+use ir_machine::{Ran, RunFault, SureFault, run_any, run_verified};
 use map_bytes::MapFault;
-use move_plan::Plan;
 use stackmap_view::MapView;
 use statepoint_verify::Verified;
 use std::alloc::Global;
@@ -37,17 +37,14 @@ pub(crate) fn run_on_machine<F: Files, O: Sink>(
     alloc: Global,
     module: &Executable,
     map: Option<FileName>,
-    numbers: &[i64],
-    plan: &Plan,
-    steps: u64,
-    shows: Shows,
+    job: &Job<'_>,
     files: &mut F,
     out: &mut O,
 ) -> Result<Status, Refusal>
     requires target { IsTargetModule (module_in «module».now).content }
     requires no_bundle { All HasNoBundle (module_in «module».now).content.funcs }
     ensures works { Works (MayGiveFile (files_seen (F.contents files.old) (F.faults files.old) (F.faults files.new)) «map»)
-        (λ given. Then (map_phase (module_in «module».now).content «map» given) (Executing (module_in «module».now).content numbers.now plan.now steps shows)) result
+        (λ given. Then (map_phase (module_in «module».now).content «map» given) (Executing (module_in «module».now).content job.now.input.now job.now.plan.now job.now.steps job.now.shows)) result
         (sink_seen (O.written out.old) (O.written out.new) (O.faults out.old) (O.faults out.new)) }
     ensures kept { F.contents files.new ≡ F.contents files.old }
     ensures counted { NoneFell (F.faults files.old) (F.faults files.new) }
@@ -56,8 +53,8 @@ pub(crate) fn run_on_machine<F: Files, O: Sink>(
     ensures out_counted { O.faults out.old ≤ O.faults out.new }
 {
     match map {
-        None => run_over_own(alloc, module, numbers, plan, steps, shows, out),
-        Some(name) => run_over_file(alloc, module, name, numbers, plan, steps, shows, files, out),
+        None => run_over_own(alloc, module, job, out),
+        Some(name) => run_over_file(alloc, module, name, job, files, out),
     }
 }
 
@@ -65,20 +62,17 @@ pub(crate) fn run_on_machine<F: Files, O: Sink>(
 fn run_over_own<O: Sink>(
     alloc: Global,
     module: &Executable,
-    numbers: &[i64],
-    plan: &Plan,
-    steps: u64,
-    shows: Shows,
+    job: &Job<'_>,
     out: &mut O,
 ) -> Result<Status, Refusal>
     requires target { IsTargetModule (module_in «module».now).content }
     requires no_bundle { All HasNoBundle (module_in «module».now).content.funcs }
-    ensures came { Came result (Then (comes_to (Go (map_of (module_in «module».now).content))) (Executing (module_in «module».now).content numbers.now plan.now steps shows))
+    ensures came { Came result (Then (comes_to (Go (map_of (module_in «module».now).content))) (Executing (module_in «module».now).content job.now.input.now job.now.plan.now job.now.steps job.now.shows))
         (sink_seen (O.written out.old) (O.written out.new) (O.faults out.old) (O.faults out.new)) }
     ensures out_counted { O.faults out.old ≤ O.faults out.new }
 {
     let bytes = map_of_module(alloc, module.module())?;
-    run_over_bytes(alloc, module, &bytes, numbers, plan, steps, shows, out)
+    run_over_bytes(alloc, module, &bytes, job, out)
 }
 
 // The run over the stack map in the file of this name.
@@ -86,15 +80,12 @@ fn run_over_file<F: Files, O: Sink>(
     alloc: Global,
     module: &Executable,
     name: FileName,
-    numbers: &[i64],
-    plan: &Plan,
-    steps: u64,
-    shows: Shows,
+    job: &Job<'_>,
     files: &mut F,
     out: &mut O,
 ) -> Result<Status, Refusal>
     ensures works { Works (MayGive (files_seen (F.contents files.old) (F.faults files.old) (F.faults files.new)) name)
-        (λ given. Then (file_phase name ReadingMap given) (Executing (module_in «module».now).content numbers.now plan.now steps shows)) result
+        (λ given. Then (file_phase name ReadingMap given) (Executing (module_in «module».now).content job.now.input.now job.now.plan.now job.now.steps job.now.shows)) result
         (sink_seen (O.written out.old) (O.written out.new) (O.faults out.old) (O.faults out.new)) }
     ensures kept { F.contents files.new ≡ F.contents files.old }
     ensures counted { NoneFell (F.faults files.old) (F.faults files.new) }
@@ -103,7 +94,7 @@ fn run_over_file<F: Files, O: Sink>(
     ensures out_counted { O.faults out.old ≤ O.faults out.new }
 {
     let bytes = take(alloc, files, name)?;
-    run_over_bytes(alloc, module, &bytes, numbers, plan, steps, shows, out)
+    run_over_bytes(alloc, module, &bytes, job, out)
 }
 
 // The run over the stack map that these bytes are.
@@ -111,17 +102,14 @@ fn run_over_bytes<O: Sink>(
     alloc: Global,
     module: &Executable,
     bytes: &[u8],
-    numbers: &[i64],
-    plan: &Plan,
-    steps: u64,
-    shows: Shows,
+    job: &Job<'_>,
     out: &mut O,
 ) -> Result<Status, Refusal>
-    ensures came { Came result (Then (ReadingMap bytes.now) (Executing (module_in «module».now).content numbers.now plan.now steps shows))
+    ensures came { Came result (Then (ReadingMap bytes.now) (Executing (module_in «module».now).content job.now.input.now job.now.plan.now job.now.steps job.now.shows))
         (sink_seen (O.written out.old) (O.written out.new) (O.faults out.old) (O.faults out.new)) }
     ensures out_counted { O.faults out.old ≤ O.faults out.new }
 {
-    match run_bytes(alloc, module, bytes, numbers, plan, steps, shows, out) {
+    match run_bytes(alloc, module, bytes, job, out) {
         Ok(ran) => Ok(status_of(ran.end)),
         Err(RunFault::BadMap(fault)) => Err(Refusal::Defined(Cause::Map(fault))),
         Err(RunFault::Write) => Err(Refusal::WriteFault),
@@ -134,26 +122,21 @@ fn run_bytes<O: Sink>(
     alloc: Global,
     module: &Executable,
     bytes: &[u8],
-    numbers: &[i64],
-    plan: &Plan,
-    steps: u64,
-    shows: Shows,
+    job: &Job<'_>,
     out: &mut O,
 ) -> Result<Ran, RunFault>
-    ensures ran { IfOk result (λ ran. IsRun (module_in «module».now).content bytes.now numbers.now plan.now steps shows ran (O.written out.old) (O.written out.new)) }
+    ensures ran { IfOk result (λ ran. IsRun (module_in «module».now).content bytes.now job.now.input.now job.now.plan.now job.now.steps job.now.shows ran (O.written out.old) (O.written out.new)) }
     ensures bad { (fault : MapFault) → result ≡ Err (RunFault.BadMap fault) → IsFirstFault bytes.now fault × (O.written out.new ≡ O.written out.old) }
-    ensures front { IsErrOf result RunFault.Memory → WritesFront (module_in «module».now).content bytes.now numbers.now plan.now steps shows (O.written out.old) (O.written out.new) }
-    ensures write { IsErrOf result RunFault.Write → WritesFront (module_in «module».now).content bytes.now numbers.now plan.now steps shows (O.written out.old) (O.written out.new) }
+    ensures front { IsErrOf result RunFault.Memory → WritesFront (module_in «module».now).content bytes.now job.now.input.now job.now.plan.now job.now.steps job.now.shows (O.written out.old) (O.written out.new) }
+    ensures write { IsErrOf result RunFault.Write → WritesFront (module_in «module».now).content bytes.now job.now.input.now job.now.plan.now job.now.steps job.now.shows (O.written out.old) (O.written out.new) }
     ensures failed { IsErrOf result RunFault.Write → Rose (O.faults out.old) (O.faults out.new) }
     ensures count { O.faults out.old ≤ O.faults out.new }
 {
     match module {
-        Executable::Trusted(read) => {
-            run_any(alloc, read, bytes, numbers, plan, steps, shows, out)
-        }
-        Executable::Checked(verified) => {
-            run_checked(alloc, verified, bytes, numbers, plan, steps, shows, out)
-        }
+        Executable::Trusted(read) => run_any(
+            alloc, read, bytes, job.input, job.plan, job.steps, job.shows, out,
+        ),
+        Executable::Checked(verified) => run_checked(alloc, verified, bytes, job, out),
     }
 }
 
@@ -161,22 +144,21 @@ fn run_checked<O: Sink>(
     alloc: Global,
     verified: &Verified,
     bytes: &[u8],
-    numbers: &[i64],
-    plan: &Plan,
-    steps: u64,
-    shows: Shows,
+    job: &Job<'_>,
     out: &mut O,
 ) -> Result<Ran, RunFault>
-    ensures ran { IfOk result (λ ran. IsRun verified.now.content bytes.now numbers.now plan.now steps shows ran (O.written out.old) (O.written out.new)) }
+    ensures ran { IfOk result (λ ran. IsRun verified.now.content bytes.now job.now.input.now job.now.plan.now job.now.steps job.now.shows ran (O.written out.old) (O.written out.new)) }
     ensures bad { (fault : MapFault) → result ≡ Err (RunFault.BadMap fault) → IsFirstFault bytes.now fault × (O.written out.new ≡ O.written out.old) }
-    ensures front { IsErrOf result RunFault.Memory → WritesFront verified.now.content bytes.now numbers.now plan.now steps shows (O.written out.old) (O.written out.new) }
-    ensures write { IsErrOf result RunFault.Write → WritesFront verified.now.content bytes.now numbers.now plan.now steps shows (O.written out.old) (O.written out.new) }
+    ensures front { IsErrOf result RunFault.Memory → WritesFront verified.now.content bytes.now job.now.input.now job.now.plan.now job.now.steps job.now.shows (O.written out.old) (O.written out.new) }
+    ensures write { IsErrOf result RunFault.Write → WritesFront verified.now.content bytes.now job.now.input.now job.now.plan.now job.now.steps job.now.shows (O.written out.old) (O.written out.new) }
     ensures failed { IsErrOf result RunFault.Write → Rose (O.faults out.old) (O.faults out.new) }
     ensures count { O.faults out.old ≤ O.faults out.new }
 {
     match MapView::of(bytes) {
         Err(fault) => Err(RunFault::BadMap(fault)),
-        Ok(view) => match run_verified(alloc, verified, &view, numbers, plan, steps, shows, out) {
+        Ok(view) => match run_verified(
+            alloc, verified, &view, job.input, job.plan, job.steps, job.shows, out,
+        ) {
             Ok(ran) => Ok(ran),
             Err(SureFault::Memory) => Err(RunFault::Memory),
             Err(SureFault::Write) => Err(RunFault::Write),

@@ -5,7 +5,7 @@ ghost use Rattle.ir_ast.specs.Bundles.{HasNoBundle};
 ghost use Rattle.ir_ast.specs.Formed.{IsFormedModule};
 ghost use Rattle.ir_cfg.specs.SourceModules.{IsSourceModule};
 ghost use Rattle.ir_cfg.specs.TargetModules.{IsTargetModule};
-ghost use Rattle.sp_rewrite.specs.Relocates.{HasFewRelocates};
+ghost use Rattle.sp_rewrite.specs.Relocates.{HasManyRelocates};
 ghost use Rattle.sp_rewrite.specs.Statements.{IsRewritten};
 ghost use Rattle.tool_io.specs.Counts.{NoneFell};
 ghost use Rattle.tool_io.specs.Takes.{TakesFirst};
@@ -91,7 +91,7 @@ pub(crate) fn rewritten(alloc: Global, read: Module) -> Result<Verified, Refusal
     requires no_bundle { All HasNoBundle read.content.funcs }
     ensures rewrites { Agrees (λ after. after.content) result (Rewriting read.content) }
     ensures is { IfOk result (λ after. IsRewritten read.content after.content) }
-    ensures few { IfOk result (λ after. HasFewRelocates read.content) }
+    ensures few { IfOk result (λ after. ¬ HasManyRelocates read.content) }
     ensures formed { IfOk result (λ after. IsFormedModule after.content) }
     ensures target { IfOk result (λ after. IsTargetModule after.content) }
     ensures no_bundle { IfOk result (λ after. All HasNoBundle after.content.funcs) }

@@ -8,6 +8,7 @@ ghost use Rattle.tool_io.specs.Takes.{TakesFirst};
 ghost use Rattle.tool_io.specs.Told.{append_told};
 ghost use Rattle.statepoint_tool.specs.Named.{files_of_map, files_of_run};
 ghost use Rattle.statepoint_tool.specs.Answers.{Came, IsBegun, IsDone, Works, sink_seen};
+ghost use Rattle.statepoint_tool.specs.Causes.{shown_by};
 ghost use Rattle.statepoint_tool.specs.Steps.{Go};
 ghost use Rattle.statepoint_tool.specs.Taken.{files_seen};
 ghost use Rattle.statepoint_tool.specs.Work.{MayGiveAll, MayGiveFromInput, MayGiveFromPlan, MayGiveMap, Running, after_input, after_module, run_phase, run_work};
@@ -15,6 +16,7 @@ ghost use Rattle.statepoint_tool.specs.Runners.{CanRun, RunsAs, engine_of};
 
 use crate::closing::close;
 use crate::engine::Engine;
+use crate::job::Job;
 use crate::machine::run_on_machine;
 use crate::phases::{take_input, take_module, take_plan};
 use crate::refusal::Refusal;
@@ -22,7 +24,6 @@ use crate::runner::{Runner, runner_of};
 use crate::status::Status;
 use ir_ast::Module;
 use ir_meaning::{RefFault, reference};
-use move_plan::Plan;
 use std::alloc::Global;
 use tool_io::{Files, Sink};
 use tool_words::{FileName, RunRequest};
@@ -102,23 +103,28 @@ fn run_with_input<F: Files, O: Sink>(
     ensures out_counted { O.faults out.old ≤ O.faults out.new }
 {
     let lines = take_plan(alloc, files, plan)?;
-    run_under_plan(alloc, runner, numbers, &lines, steps, files, out)
+    let job = Job {
+        input: numbers,
+        plan: &lines,
+        steps,
+        shows: runner.shows(),
+    };
+    run_under_plan(alloc, runner, &job, files, out)
 }
 
 // What is left once the plan is read.
 fn run_under_plan<F: Files, O: Sink>(
     alloc: Global,
     runner: Runner,
-    numbers: &[i64],
-    plan: &Plan,
-    steps: u64,
+    job: &Job<'_>,
     files: &mut F,
     out: &mut O,
 ) -> Result<Status, Refusal>
-    requires { CanRun runner }
+    requires can { CanRun runner }
+    requires shows { job.now.shows ≡ shown_by (engine_of runner) }
     ensures works { (content : ModuleContent) → RunsAs content runner →
         Works (MayGiveMap (files_seen (F.contents files.old) (F.faults files.old) (F.faults files.new)) (engine_of runner))
-        (run_phase (engine_of runner) content numbers.now plan.now steps) result
+        (run_phase (engine_of runner) content job.now.input.now job.now.plan.now job.now.steps) result
         (sink_seen (O.written out.old) (O.written out.new) (O.faults out.old) (O.faults out.new)) }
     ensures kept { F.contents files.new ≡ F.contents files.old }
     ensures counted { NoneFell (F.faults files.old) (F.faults files.new) }
@@ -127,13 +133,13 @@ fn run_under_plan<F: Files, O: Sink>(
     ensures out_counted { O.faults out.old ≤ O.faults out.new }
 {
     match runner {
-        Runner::Meaning(read) => run_by_meaning(alloc, &read, numbers, plan, steps, out),
-        Runner::Rewritten { module, map, shows } => run_on_machine(
-            alloc, &module, map, numbers, plan, steps, shows, files, out,
-        ),
-        Runner::Machine { module, map, shows } => run_on_machine(
-            alloc, &module, map, numbers, plan, steps, shows, files, out,
-        ),
+        Runner::Meaning(read) => run_by_meaning(alloc, &read, job, out),
+        Runner::Rewritten { module, map, .. } => {
+            run_on_machine(alloc, &module, map, job, files, out)
+        }
+        Runner::Machine { module, map, .. } => {
+            run_on_machine(alloc, &module, map, job, files, out)
+        }
     }
 }
 
@@ -141,17 +147,15 @@ fn run_under_plan<F: Files, O: Sink>(
 fn run_by_meaning<O: Sink>(
     alloc: Global,
     read: &Module,
-    numbers: &[i64],
-    plan: &Plan,
-    steps: u64,
+    job: &Job<'_>,
     out: &mut O,
 ) -> Result<Status, Refusal>
     requires source { IsSourceModule read.now.content }
-    ensures came { Came result (Running read.now.content numbers.now plan.now steps)
+    ensures came { Came result (Running read.now.content job.now.input.now job.now.plan.now job.now.steps)
         (sink_seen (O.written out.old) (O.written out.new) (O.faults out.old) (O.faults out.new)) }
     ensures out_counted { O.faults out.old ≤ O.faults out.new }
 {
-    match write_run(alloc, read, numbers, plan, steps, out) {
+    match write_run(alloc, read, job, out) {
         Ok(status) => Ok(status),
         Err(RefFault::Memory) => Err(Refusal::Memory),
         Err(RefFault::Write) => Err(Refusal::WriteFault),
@@ -162,20 +166,18 @@ fn run_by_meaning<O: Sink>(
 fn write_run<O: Sink>(
     alloc: Global,
     read: &Module,
-    numbers: &[i64],
-    plan: &Plan,
-    steps: u64,
+    job: &Job<'_>,
     out: &mut O,
 ) -> Result<Status, RefFault>
     requires source { IsSourceModule read.now.content }
-    ensures done { IfOk result (λ status. IsDone status (Running read.now.content numbers.now plan.now steps)
+    ensures done { IfOk result (λ status. IsDone status (Running read.now.content job.now.input.now job.now.plan.now job.now.steps)
         (sink_seen (O.written out.old) (O.written out.new) (O.faults out.old) (O.faults out.new))) }
-    ensures begun { OnErr result (IsBegun (λ output. Running read.now.content numbers.now plan.now steps (Go output))
+    ensures begun { OnErr result (IsBegun (λ output. Running read.now.content job.now.input.now job.now.plan.now job.now.steps (Go output))
         (sink_seen (O.written out.old) (O.written out.new) (O.faults out.old) (O.faults out.new))) }
     ensures failed { IsErrOf result RefFault.Write → Rose (O.faults out.old) (O.faults out.new) }
     ensures out_counted { O.faults out.old ≤ O.faults out.new }
 {
-    let ran = reference(alloc, read, numbers, plan, steps, out)?;
+    let ran = reference(alloc, read, job.input, job.plan, job.steps, out)?;
     let status = close(read, ran.end, ran.func, ran.steps, ran.events, out)?;
     Ok(status)
 }

@@ -6,6 +6,7 @@ ghost use Rattle.ir_cfg.specs.SourceModules.{IsSourceModule};
 ghost use Rattle.ir_cfg.specs.TargetModules.{IsTargetModule};
 ghost use Rattle.ir_cfg.specs.TypedModules.{IsModuleOf};
 ghost use Rattle.statepoint_tool.specs.Answers.{Agrees};
+ghost use Rattle.statepoint_tool.specs.Causes.{shown_by};
 ghost use Rattle.statepoint_tool.specs.Runners.{RunsAs, engine_of, module_in};
 ghost use Rattle.statepoint_tool.specs.Work.{form_of, judged};
 
@@ -56,6 +57,21 @@ pub(crate) enum Runner {
         map: Option<FileName>,
         shows: Shows,
     },
+}
+
+impl Runner {
+    /// What its run shows besides what the program prints.
+    pub(crate) fn shows(&self) -> Shows
+        ensures { result ≡ shown_by (engine_of self.now) }
+    {
+        match self {
+            Runner::Meaning(_) => Shows {
+                places: false,
+                trace: false,
+            },
+            Runner::Rewritten { shows, .. } | Runner::Machine { shows, .. } => *shows,
+        }
+    }
 }
 
 /// What this engine runs for a module: a rewritten one that isn't trusted is verified, and a source module is rewritten where

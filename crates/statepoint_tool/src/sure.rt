@@ -2,7 +2,7 @@
 ghost use Rattle.std.specs.Prelude.{◌≡◌, ◌≢◌, ◌⊎◌, Some, map, string_bytes};
 ghost use Rattle.tool_io.specs.NamedFiles.{sure_contents_of};
 ghost use Rattle.statepoint_tool.specs.Causes.{Ends};
-ghost use Rattle.statepoint_tool.specs.Complete.{AllTold};
+ghost use Rattle.statepoint_tool.specs.Complete.{AllTold, IsFaultless};
 ghost use Rattle.statepoint_tool.specs.Named.{TakesNamed};
 ghost use Rattle.statepoint_tool.specs.Taken.{files_seen};
 ghost use Rattle.statepoint_tool.specs.Work.{Given, Output};
@@ -26,9 +26,10 @@ pub fn statepoint_surely(
 ) -> Status
     ensures never_read_fault { result ≢ Status.ReadFault }
     ensures never_write_fault { result ≢ Status.WriteFault }
-    ensures complete { (given : Given) (output : Output) →
+    ensures complete { (given : Given) →
         AllTold (files_seen (sure_contents_of files.old.files) (λ _. 0) (λ _. 0)) (command_of (map string_bytes words.now)) given →
-        Ends (map string_bytes words.now) given output → (result ≡ output.status) ⊎ (result ≡ Status.WantOfMemory) }
+        IsFaultless (map string_bytes words.now) given →
+        (output : Output) × Ends (map string_bytes words.now) given output × ((result ≡ output.status) ⊎ (result ≡ Status.WantOfMemory)) }
     ensures takes { TakesNamed (map string_bytes words.now) (Some files.old.taken) (Some files.new.taken) result }
 {
     statepoint(alloc, words, files, out, notes)

@@ -33,8 +33,8 @@ use Rattle.statepoint_verify.specs.Marks.{PairFault, mark_of, AreAll, IsInside}
 use Rattle.statepoint_verify.specs.Marks as marks
 use Rattle.statepoint_verify.specs.Judged.{ask_of, asks_for, code_by, loose_code, marked_by, UseFault, IsJudged, AreJudged, AreUses}
 use Rattle.statepoint_verify.specs.Judged as uses
-use Rattle.statepoint_verify.proofs.TestLemmas.{line_is}
 use Rattle.statepoint_verify.proofs.MarkLemmas.{block_within, inside_by}
+use Rattle.object_meaning.proofs.LineLaws.{line_is}
 
 -- ---- where used pairs stand and are judged
 
@@ -246,12 +246,6 @@ by_new : (pair : UsedPair) (found : Option ℕ) (code : ℕ) (before : List Mark
 by_new pair found code before is =
     let mark = mark_of pair.block pair.place code in
     subst (λ (o : Option ℕ). Contains (marked_by pair o before) mark) (sym is) (Contains-append_right before (mark ∷ []) mark (contains_first mark []))
-
-pub judged_none : (func : Function) (used : List UsedPair) → AreJudged func used 0 []
-judged_none func used = record {
-  sound = λ mark there. absurd (contains_none mark there);
-  complete = λ k pair code low at fault. absurd (omega (arith, low));
-}
 
 pub judged_more : (func : Function) (used : List UsedPair) (count : ℕ) (pair : UsedPair) (found : Option ℕ) (before next : List Mark) → slice_get used count ≡ Some pair
     → IsUse func pair → IsJudged func pair found → next ≡ marked_by pair found before → AreJudged func used count before → AreJudged func used (count + 1) next

@@ -18,6 +18,7 @@ use Rattle.statepoint_verify.specs.declared.marks.Mark.{Mark}
 use Rattle.statepoint_verify.specs.Marks.{PairFault, TextFault, AreAll, IsInside}
 use Rattle.statepoint_verify.specs.Marks as marks
 use Rattle.statepoint_verify.specs.Least.{IsLeast, IsLeastOf, comes_first, earlier, IsFaultIn, IsMarkedAs, IsFaultBelow, AreStarts}
+use Rattle.ir_ast.proofs.FuncLaws.{starts_low}
 
 -- ---- the order of faults
 
@@ -26,18 +27,6 @@ no_later_trans a b c d e f (inl first) (inl second) = inl (omega arith)
 no_later_trans a b c d e f (inl first) (inr (same, low)) = inl (omega arith)
 no_later_trans a b c d e f (inr (same, low)) (inl second) = inl (omega arith)
 no_later_trans a b c d e f (inr (same, low)) (inr (other, below)) = inr (same ∙ other, omega arith)
-
-no_later_or : (a b c d : ℕ) → IsNoLater a b c d ⊎ IsNoLater c d a b
-no_later_or a b c d = elim (cases_lt a c) [
-  | inl less ↦ inl (inl less)
-  | inr past ↦ elim (cases_lt c a) [
-    | inl more ↦ inr (inl more)
-    | inr high ↦ elim (cases_lt b d) [
-      | inl low ↦ inl (inr (omega arith, omega arith))
-      | inr low ↦ inr (inr (omega arith, omega arith))
-    ]
-  ]
-]
 
 first_is : (one other : Fault) → comes_first one other ≡ true → IsNoLater one.line one.code other.line other.code
 first_is one other h = elim (cases_lt one.line other.line) [
@@ -100,15 +89,6 @@ least_either P Q R (Some a) (Some b) either p_is q_is = by (comes_first a b) ref
         | inr q ↦ q_is.least line code q
       ];
     }
-
--- the same faults
-pub least_same : (P Q : ℕ → ℕ → Type 0) (found : Option Fault) → ((line code : ℕ) → P line code → Q line code) → ((line code : ℕ) → Q line code → P line code)
-    → IsLeastOf P found → IsLeastOf Q found
-least_same P Q None to from none = λ line code there. none line code (from line code there)
-least_same P Q (Some fault) to from is = record {
-  fault = to fault.line fault.code is.fault;
-  least = λ line code there. is.least line code (from line code there);
-}
 
 -- ---- the least of marks
 
@@ -254,12 +234,6 @@ starts_step blocks k block at = subst (λ (n : ℕ). length (instructions_of (ta
     by (first ∷ blocks) (suc k) at =
         let rest = by blocks k at in
         omega (arith, rest, length-append first.insts (instructions_of (take (suc k) blocks)), length-append first.insts (instructions_of (take k blocks)))
-
-pub starts_low : (blocks : List BasicBlock) (k : ℕ) → length (instructions_of (take k blocks)) ≤ length (instructions_of blocks)
-starts_low blocks zero = omega arith
-starts_low [] (suc k) = omega arith
-starts_low (first ∷ blocks) (suc k) =
-    omega (arith, starts_low blocks k, length-append first.insts (instructions_of (take k blocks)), length-append first.insts (instructions_of blocks))
 
 pub place_low : (blocks : List BasicBlock) (k place : ℕ) (block : BasicBlock) → slice_get blocks k ≡ Some block → place < length block.insts
     → length (instructions_of (take k blocks)) + place < length (instructions_of blocks)

@@ -3,7 +3,7 @@ use Rattle.std.proofs.Common.{◌≡◌, ◌∙◌, ◌⊎◌, inl, inr, ℕ, �
 use Rattle.std.specs.Prelude.{◌&&◌, slice_get, slice_index}
 use Rattle.std.specs.List.{Contains}
 use Rattle.std.specs.Option.{option_map_or}
-use Rattle.std.proofs.lemmas.Bool.{cases_lt}
+use Rattle.std.proofs.lemmas.Bool.{cases_lt, and_parts, and_from}
 use Rattle.std.proofs.lemmas.List.Elements.{Contains-append_left, Contains-append_right, Contains-append_cases}
 use Rattle.std.proofs.lemmas.Option.{slice_get_within, slice_get_past}
 use Rattle.list_laws.proofs.Contents.{contains_none, contains_first, contains_one}
@@ -14,12 +14,14 @@ use Rattle.ir_cfg.specs.Paths.{Reached}
 use Rattle.object_meaning.specs.Lines.{Line, registers_of, insts_in}
 use Rattle.pair_facts.specs.Lines.{lines_at}
 use Rattle.fact_tables.specs.Homes.{IsBefore}
-use Rattle.fact_tables.proofs.LineLemmas.{insts_are, length-plain_lines}
+use Rattle.fact_tables.proofs.LineLemmas.{insts_are}
 use Rattle.statepoint_verify.specs.declared.marks.Mark.{Mark}
 use Rattle.statepoint_verify.specs.Tests.{is_open, is_unchecked, is_plain_at, loses}
 use Rattle.statepoint_verify.specs.Marks.{TextFault, open_group, unchecked, plain_call, lost_value, mark_of, AreAll, AreMarked, IsInside, marked_where, line_marked}
-use Rattle.pair_facts.proofs.BoolLemmas.{both, joined}
 use Rattle.statepoint_verify.proofs.TestLemmas.{open_found, open_tests, unchecked_found, unchecked_tests, plain_found, plain_tests, lost_found, lost_tests}
+use Rattle.object_meaning.proofs.LineLaws.{plain_count}
+use Rattle.fact_tables.proofs.HomeLemmas.{before_cases}
+use Rattle.used_pairs.proofs.UseLemmas.{earlier_too}
 
 -- ---- one mark
 
@@ -58,13 +60,13 @@ line_sound func block place reached marks mark below leads there =
     elim (where_cases (loses lines place) (mark_of block place 7) third mark there) [
       | inr is ↦ inr (here_by func block place 7 mark (lost_value (lost_found lines place below is.0)) is.1)
       | inl rest ↦ elim (where_cases (reached && is_plain_at lines place) (mark_of block place 6) second mark rest) [
-        | inr is ↦ (let on = both reached (is_plain_at lines place) is.0 in
+        | inr is ↦ (let on = and_parts reached (is_plain_at lines place) is.0 in
             inr (here_by func block place 6 mark (plain_call (leads on.0) (plain_found lines place below on.1)) is.1))
         | inl rest ↦ elim (where_cases (reached && is_unchecked lines place) (mark_of block place 3) first mark rest) [
-          | inr is ↦ (let on = both reached (is_unchecked lines place) is.0 in
+          | inr is ↦ (let on = and_parts reached (is_unchecked lines place) is.0 in
               inr (here_by func block place 3 mark (unchecked (leads on.0) (unchecked_found lines place below on.1)) is.1))
           | inl rest ↦ elim (where_cases (reached && is_open lines place) (mark_of block place 2) marks mark rest) [
-            | inr is ↦ (let on = both reached (is_open lines place) is.0 in
+            | inr is ↦ (let on = and_parts reached (is_open lines place) is.0 in
                 inr (here_by func block place 2 mark (open_group (leads on.0) (open_found lines place below on.1)) is.1))
             | inl before ↦ inl before
           ]
@@ -94,7 +96,7 @@ line_complete func block place _ reached marks on (open_group leads is) =
     where_kept (loses lines place) (mark_of block place 7) third mark
     (where_kept (reached && is_plain_at lines place) (mark_of block place 6) second mark
     (where_kept (reached && is_unchecked lines place) (mark_of block place 3) first mark
-    (where_new (reached && is_open lines place) mark marks (joined reached (is_open lines place) (on leads) (open_tests lines place is)))))
+    (where_new (reached && is_open lines place) mark marks (and_from reached (is_open lines place) (on leads) (open_tests lines place is)))))
 line_complete func block place _ reached marks on (unchecked leads is) =
     let lines = lines_at func block in
     let mark = mark_of block place 3 in
@@ -103,7 +105,7 @@ line_complete func block place _ reached marks on (unchecked leads is) =
     let third = marked_where (reached && is_plain_at lines place) (mark_of block place 6) second in
     where_kept (loses lines place) (mark_of block place 7) third mark
     (where_kept (reached && is_plain_at lines place) (mark_of block place 6) second mark
-    (where_new (reached && is_unchecked lines place) mark first (joined reached (is_unchecked lines place) (on leads) (unchecked_tests lines place is))))
+    (where_new (reached && is_unchecked lines place) mark first (and_from reached (is_unchecked lines place) (on leads) (unchecked_tests lines place is))))
 line_complete func block place _ reached marks on (plain_call leads is) =
     let lines = lines_at func block in
     let mark = mark_of block place 6 in
@@ -111,7 +113,7 @@ line_complete func block place _ reached marks on (plain_call leads is) =
     let second = marked_where (reached && is_unchecked lines place) (mark_of block place 3) first in
     let third = marked_where (reached && is_plain_at lines place) (mark_of block place 6) second in
     where_kept (loses lines place) (mark_of block place 7) third mark
-    (where_new (reached && is_plain_at lines place) mark second (joined reached (is_plain_at lines place) (on leads) (plain_tests lines place is)))
+    (where_new (reached && is_plain_at lines place) mark second (and_from reached (is_plain_at lines place) (on leads) (plain_tests lines place is)))
 line_complete func block place _ reached marks on (lost_value is) =
     let lines = lines_at func block in
     let first = marked_where (reached && is_open lines place) (mark_of block place 2) marks in
@@ -128,7 +130,7 @@ text_within func block place _ (plain_call leads is) = slice_get_within (lines_a
 text_within func block place _ (lost_value is) = slice_get_within (lines_at func block) place is.line is.stands
 
 pub inst_count : (func : Function) (block : ℕ) → length (lines_at func block) ≡ length (insts_in func block)
-inst_count func block = length-plain_lines (slice_index (registers_of func) block) (insts_in func block)
+inst_count func block = plain_count (slice_index (registers_of func) block) (insts_in func block)
 
 -- a block with a line is one of the function's
 pub block_within : (func : Function) (block place : ℕ) → place < length (lines_at func block) → block < length func.blocks
@@ -149,18 +151,6 @@ pub text_inside : (func : Function) (marks : List Mark) → AreAll (TextFault fu
 text_inside func marks are mark there = inside_by func mark (text_within func mark.block mark.place mark.code ((are mark).0 there))
 
 -- ---- a line more, a block more, all blocks
-
-before_cases : (block place until_block until : ℕ) → IsBefore block place until_block (until + 1)
-    → IsBefore block place until_block until ⊎ ((block ≡ until_block) × (place ≡ until))
-before_cases block place until_block until (inl earlier) = inl (inl earlier)
-before_cases block place until_block until (inr (same, below)) = elim (cases_lt place until) [
-  | inl less ↦ inl (inr (same, less))
-  | inr past ↦ inr (same, omega arith)
-]
-
-earlier_too : (block place until_block until : ℕ) → IsBefore block place until_block until → IsBefore block place until_block (until + 1)
-earlier_too block place until_block until (inl earlier) = inl earlier
-earlier_too block place until_block until (inr (same, below)) = inr (same, omega arith)
 
 pub marked_more : (func : Function) (block place : ℕ) (reached : Bool) (marks next : List Mark) → place < length (lines_at func block)
     → (reached ≡ true → Reached (graph_of func) block) → (Reached (graph_of func) block → reached ≡ true)

@@ -3,7 +3,7 @@ use Rattle.std.proofs.Common.{◌≡◌, ◌∙◌, inl, inr, ℕ, ◌-◌, ◌<
 use Rattle.std.specs.Prelude.{◌&&◌, ◌||◌, nat_eq, slice_get}
 use Rattle.std.specs.List.{Contains, list_any, position}
 use Rattle.std.specs.Option.{option_map_or}
-use Rattle.std.proofs.lemmas.Bool.{false≢true, cases_Bool, not-true, not_from_false}
+use Rattle.std.proofs.lemmas.Bool.{false≢true, cases_Bool, not-true, not_from_false, and_parts, and_from}
 use Rattle.std.proofs.lemmas.Option.{none-some, same_Some, slice_get-get_or, get_or_from_slice_get}
 use Rattle.list_laws.proofs.Contents.{contains_none, contains_first, contains_later, contains_cons}
 use Rattle.ir_ast.specs.declared.types.Ty.{Ty}
@@ -22,44 +22,21 @@ use Rattle.pair_facts.specs.Lines.{line_in, no_line, operand_at, same_operand, i
 use Rattle.pair_facts.specs.Pairs.{base_index, has_base}
 use Rattle.pair_facts.specs.Uses.{entries_at, accessed_at, checks_access, is_checked, is_kept}
 use Rattle.pair_facts.specs.Faults.{IsOpenGroup, IsUnchecked, IsPlainCall, IsLostValue}
-use Rattle.pair_facts.proofs.BoolLemmas.{both, joined}
 use Rattle.pair_facts.proofs.PlaceLaws.{head_here}
 use Rattle.fact_tables.proofs.TableLemmas.{last_line}
 use Rattle.fact_tables.specs.declared.groups.Group.{Group}
 use Rattle.statepoint_verify.specs.Tests.{checks_by, is_open_entry, is_open_in, is_open, is_unchecked_at, is_unchecked, is_plain, is_plain_at, is_lost, loses}
 use Rattle.fact_tables.specs.Groups.{IsKept, IsGroup, keeps_value}
 use Rattle.statepoint_verify.specs.Kept.{opens_by, is_kept_by, is_lost_by}
+use Rattle.object_meaning.proofs.LineLaws.{line_is}
+use Rattle.list_laws.proofs.Tests.{contained_any, any_contained, any_same}
 
 -- ---- lists
-
-any_contained : {A : Type 0} (p : A → Bool) (xs : List A) → list_any p xs ≡ true → (x : A) × Contains xs x × (p x ≡ true)
-any_contained p [] h = absurd (false≢true h)
-any_contained p (x ∷ xs) h = elim (cases_Bool (p x)) [
-  | inl own ↦ (x, contains_first x xs, own)
-  | inr other ↦ (let rest = any_contained p xs (sym (ap (λ b. b || list_any p xs) other) ∙ h) in (rest.0, contains_later x rest.0 xs rest.1, rest.2))
-]
-
-contained_any : {A : Type 0} (p : A → Bool) (xs : List A) (x : A) → Contains xs x → p x ≡ true → list_any p xs ≡ true
-contained_any p [] x there holds = absurd (contains_none x there)
-contained_any p (y ∷ ys) x there holds = elim (contains_cons y x ys there) [
-  | inl same ↦ ap (λ b. b || list_any p ys) (ap p same ∙ holds)
-  | inr later ↦ (let rest = contained_any p ys x later holds in elim (cases_Bool (p y)) [
-    | inl own ↦ ap (λ b. b || list_any p ys) own
-    | inr other ↦ ap (λ b. b || list_any p ys) other ∙ rest
-  ])
-]
-
-any_same : {A : Type 0} (p q : A → Bool) (xs : List A) → ((x : A) → p x ≡ q x) → list_any p xs ≡ list_any q xs
-any_same p q [] same = refl
-any_same p q (x ∷ xs) same = ap (λ b. b || list_any p xs) (same x) ∙ ap (λ b. q x || b) (any_same p q xs same)
 
 -- ---- a line by its place
 
 pub stands_at : (lines : List Line) (place : ℕ) → place < length lines → slice_get lines place ≡ Some (line_in lines place)
 stands_at lines place below = slice_get-get_or lines place no_line below
-
-pub line_is : (lines : List Line) (place : ℕ) (line : Line) → slice_get lines place ≡ Some line → line_in lines place ≡ line
-line_is lines place line stands = get_or_from_slice_get lines place line no_line stands
 
 -- ---- open groups
 
@@ -70,8 +47,8 @@ open_found lines place below h = by (head_at lines place) refl h
     by None at h = absurd (false≢true h)
     by (Some head) at h =
         let line = line_in lines place in
-        let first = both (is_relocate line.inst.op) (not (is_null (operand_at (entries_at lines head) (base_index line))) && not (has_base (group_in lines head) (base_index line))) h in
-        let second = both (not (is_null (operand_at (entries_at lines head) (base_index line)))) (not (has_base (group_in lines head) (base_index line))) first.1 in
+        let first = and_parts (is_relocate line.inst.op) (not (is_null (operand_at (entries_at lines head) (base_index line))) && not (has_base (group_in lines head) (base_index line))) h in
+        let second = and_parts (not (is_null (operand_at (entries_at lines head) (base_index line)))) (not (has_base (group_in lines head) (base_index line))) first.1 in
         record {
           head = head;
           line = line;
@@ -86,8 +63,8 @@ open_tests lines place is =
     let entry = base_index is.line in
     ap (is_open_in lines (line_in lines place)) is.relocates.in_group
     ∙ ap (is_open_entry (entries_at lines is.head) (group_in lines is.head)) same
-    ∙ joined (is_relocate is.line.inst.op) (not (is_null (operand_at (entries_at lines is.head) entry)) && not (has_base (group_in lines is.head) entry)) is.relocates.relocate
-    (joined (not (is_null (operand_at (entries_at lines is.head) entry))) (not (has_base (group_in lines is.head) entry))
+    ∙ and_from (is_relocate is.line.inst.op) (not (is_null (operand_at (entries_at lines is.head) entry)) && not (has_base (group_in lines is.head) entry)) is.relocates.relocate
+    (and_from (not (is_null (operand_at (entries_at lines is.head) entry))) (not (has_base (group_in lines is.head) entry))
     (not_from_false (is_null (operand_at (entries_at lines is.head) entry)) is.named) (not_from_false (has_base (group_in lines is.head) entry) is.lost))
 
 -- ---- accesses
@@ -141,10 +118,10 @@ pub lost_found : (lines : List Line) (place : ℕ) → place < length lines → 
 lost_found lines place below h =
     let line = line_in lines place in
     let test = is_lost (entries_at lines place) (group_in lines place) in
-    let parts = both (is_statepoint line.inst.op) (list_any test line.inst.bundle) h in
+    let parts = and_parts (is_statepoint line.inst.op) (list_any test line.inst.bundle) h in
     let found = any_contained test line.inst.bundle parts.1 in
     let entry = found.0 in
-    let lost = both (is_pointer entry.0) (not (is_kept (entries_at lines place) (group_in lines place) entry.1)) found.2 in
+    let lost = and_parts (is_pointer entry.0) (not (is_kept (entries_at lines place) (group_in lines place) entry.1)) found.2 in
     record {
       line = line;
       stands = stands_at lines place below;
@@ -159,9 +136,9 @@ pub lost_tests : (lines : List Line) (place : ℕ) → IsLostValue lines place �
 lost_tests lines place is =
     let test = is_lost (entries_at lines place) (group_in lines place) in
     ap (λ (line : Line). is_statepoint line.inst.op && list_any test line.inst.bundle) (line_is lines place is.line is.stands)
-    ∙ joined (is_statepoint is.line.inst.op) (list_any test is.line.inst.bundle) is.op
+    ∙ and_from (is_statepoint is.line.inst.op) (list_any test is.line.inst.bundle) is.op
     (contained_any test is.line.inst.bundle is.entry is.contained
-    (joined (is_pointer is.entry.0) (not (is_kept (entries_at lines place) (group_in lines place) is.entry.1)) is.pointer
+    (and_from (is_pointer is.entry.0) (not (is_kept (entries_at lines place) (group_in lines place) is.entry.1)) is.pointer
     (not_from_false (is_kept (entries_at lines place) (group_in lines place) is.entry.1) is.lost)))
 
 -- ---- the tests by what a group keeps

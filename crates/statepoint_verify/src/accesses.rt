@@ -1,3 +1,5 @@
+//! Loads and stores without their check.
+
 ghost use Rattle.std.specs.Prelude.{◌≡◌, ◌<◌, length};
 ghost use Rattle.ir_ast.specs.Cells.{kind_of, type_of};
 ghost use Rattle.ir_ast.specs.declared.cells.Cell.{Cell};

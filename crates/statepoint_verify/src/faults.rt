@@ -1,3 +1,5 @@
+//! The verifier's faults, by line and code.
+
 use ir_ast::Module;
 use std::error::Error;
 use std::fmt;

@@ -1,3 +1,5 @@
+//! Instructions at their places, and what the verifier asks of them.
+
 ghost use Rattle.std.specs.Prelude.{◌≡◌, ◌<◌, length, drop, slice_get};
 ghost use Rattle.ir_ast.specs.Types.{is_pointer};
 ghost use Rattle.ir_ast.specs.Callees.{is_leaf};

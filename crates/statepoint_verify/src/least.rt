@@ -1,3 +1,5 @@
+//! The least of a function's faults.
+
 ghost use Rattle.std.specs.Prelude.{◌≡◌, slice_index, if◌then◌else◌, IfOk};
 ghost use Rattle.std.specs.List.{Contains};
 ghost use Rattle.ir_ast.specs.Formed.{IsFormed};

@@ -1,3 +1,5 @@
+//! Faults that the text of a line decides.
+
 ghost use Rattle.std.specs.Prelude.{◌≡◌, ◌<◌, ◌+◌, ◌↔◌, Some, length, slice_get, IfOk, IsTrue};
 ghost use Rattle.ir_cfg.specs.Graphs.{graph_of};
 ghost use Rattle.ir_cfg.specs.Paths.{Reached};

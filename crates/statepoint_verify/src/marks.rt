@@ -1,3 +1,5 @@
+//! Faults as marks at places, in the order in which they are found.
+
 ghost use Rattle.std.specs.Prelude.{◌≡◌, ◌&&◌, IfOk};
 ghost use Rattle.statepoint_verify.specs.Marks.{mark_of, marked_where};
 

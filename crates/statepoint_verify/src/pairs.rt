@@ -1,3 +1,5 @@
+//! Faults that pairs of pointers and bases decide.
+
 ghost use Rattle.std.specs.Prelude.{◌≡◌, ◌<◌, ◌+◌, ◌*◌, ◌++◌, false, length, slice_index_or, IfOk};
 ghost use Rattle.std.specs.List.{AllZip, flat_map};
 ghost use Rattle.ir_ast.specs.Formed.{IsFormed};

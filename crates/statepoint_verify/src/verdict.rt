@@ -1,3 +1,5 @@
+//! The verdict on a module: verified, or its least fault.
+
 ghost use Rattle.std.specs.Prelude.{◌≡◌, length, IfOk, IfErr};
 ghost use Rattle.std.specs.List.{All};
 ghost use Rattle.ir_ast.specs.Formed.{IsFormed};

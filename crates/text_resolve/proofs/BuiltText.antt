@@ -112,12 +112,3 @@ rows-resolved lines funcs start new empty e n =
     ∙ ap (λ (fs : List Definition). map (λ (func : Definition). rows_of func.body) fs) e ∙ rows-all lines (definitions_of lines)
 
 -- ---- lists
-
-pub made-all : {A B : Type 0} (make : List A → List B) (xs : List A) (i : ℕ) (items whole : List B) → make [] ≡ [] → length xs ≤ i
-    → items ++ make (drop i xs) ≡ whole → items ≡ whole
-made-all make xs i items whole none end e =
-    sym (append-nil items) ∙ ap (λ ys. items ++ ys) (sym none) ∙ ap (λ zs. items ++ make zs) (sym (drop_all i xs end)) ∙ e
-
-pub if-ok : {A E : Type 0} (r : Result A E) (P Q : A → Type 0) → ((x : A) → P x → Q x) → IfOk r P → IfOk r Q
-if-ok (Ok value) P Q f p = f value p
-if-ok (Err error) P Q f p = tt

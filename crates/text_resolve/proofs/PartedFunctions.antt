@@ -17,6 +17,7 @@ use Rattle.module_build.specs.Founds.{Found}
 use Rattle.module_build.proofs.Founds.{notes-start, notes-turn, notes-all}
 use Rattle.text_resolve.specs.Parts.{headed, lines_in, parted}
 use Rattle.text_resolve.proofs.Contained.{contained-found, found-contained}
+use Rattle.list_laws.proofs.Contents.{all_front, all_back}
 
 -- ---- one definition more
 
@@ -38,12 +39,6 @@ parted-push (one ∷ outer) (first ∷ bodies) body line below is =
     ap (λ (fs : List Definition). headed one (seen_lines first.items) ++ fs)
     (parted-push outer bodies body line (let b : suc (length bodies) < suc (length outer) = below in omega (arith, b)) is)
     ∙ sym (append_assoc (headed one (seen_lines first.items)) (parted outer bodies) (headed line (seen_lines body.items)))
-
-all_front : {X : Type 0} (P : X → Type 0) (xs ys : List X) → All P (xs ++ ys) → All P xs
-all_front P xs ys all = All-weaker (Contains xs) P (λ x c. All-contains P (xs ++ ys) x all (Contains-append_left xs ys x c)) xs (All-contains_itself xs)
-
-all_back : {X : Type 0} (P : X → Type 0) (xs ys : List X) → All P (xs ++ ys) → All P ys
-all_back P xs ys all = All-weaker (Contains ys) P (λ x c. All-contains P (xs ++ ys) x all (Contains-append_right xs ys x c)) ys (All-contains_itself ys)
 
 pub parted-at : (P : Definition → Type 0) (outer : List NumberedReading) (bodies : List (Vec NumberedReading)) (place : ℕ) (body : Vec NumberedReading) (line : NumberedReading)
     → All P (parted outer bodies) → place < length outer → place < length bodies → line ≡ get_or outer place line → body ≡ get_or bodies place body

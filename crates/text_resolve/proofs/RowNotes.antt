@@ -87,10 +87,6 @@ pub other-widths : (behind : List Line) (r : Reading) → ((width : Width) (valu
 other-widths behind (Switch width value default) none line code f = none width value default refl
 other-widths behind _ none line code f = f
 
-pub on-ok : {A E : Type 0} (r : Result A E) (P Q : Type 0) → (P → Q) → OnOk r P → OnOk r Q
-on-ok (Ok a) P Q to h = to h
-on-ok (Err e) P Q to h = tt
-
 pub always : {A E : Type 0} (r : Result A E) (P : Type 0) → P → OnOk r P
 always (Ok a) P h = h
 always (Err e) P h = tt

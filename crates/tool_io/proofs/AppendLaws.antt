@@ -77,15 +77,8 @@ pub AppendsFront-among : {mid new : Option (List ℕ)} {piece : List ℕ} → (o
 AppendsFront-among {mid} {new} {piece} old done rest whole added front split =
     AppendsFront-same (AppendsFront-second old done added (AppendsFront-first front rest)) whole split
 
--- a sink that tells nothing still tells nothing
-pub AppendsFront-untold : {new : Option (List ℕ)} {bytes : List ℕ} → AppendsFront None new bytes → new ≡ None
-AppendsFront-untold front = front.added
-
 -- A loop of calls: `AppendsBefore` holds as it begins, after each piece, and gives what is owed where
 -- it ends, where a piece fails, and where the loop is left for another cause.
-
-pub AppendsBefore-start : (old : Option (List ℕ)) (whole : List ℕ) → AppendsBefore old old whole whole
-AppendsBefore-start old whole = record { done = []; split = refl; added = sym (append_known-nil old) }
 
 pub AppendsBefore-next : {old mid : Option (List ℕ)} {whole left : List ℕ} → AppendsBefore old mid whole left → (new : Option (List ℕ)) (piece rest : List ℕ) → new ≡ append_known mid piece → left ≡ piece ++ rest → AppendsBefore old new whole rest
 AppendsBefore-next {old} {mid} before new piece rest added split =
@@ -102,9 +95,6 @@ AppendsBefore-end {old} before =
 pub AppendsBefore-failed : {old mid new : Option (List ℕ)} {whole left piece : List ℕ} → AppendsBefore old mid whole left → AppendsFront mid new piece → (rest : List ℕ) → left ≡ piece ++ rest → AppendsFront old new whole
 AppendsBefore-failed {old} {whole = whole} before front rest split =
     AppendsFront-among old before.done rest whole before.added front (before.split ∙ ap (λ bytes. before.done ++ bytes) split)
-
-pub AppendsBefore-left : {old new : Option (List ℕ)} {whole left : List ℕ} → AppendsBefore old new whole left → AppendsFront old new whole
-AppendsBefore-left {left = left} before = record { front = before.done; rest = left; whole = before.split; added = before.added }
 
 -- what holds whatever a call answered, as at the exit of a `?`
 pub OnErr-always : {T E P : Type 0} → (result : Result T E) → P → OnErr result P

@@ -19,14 +19,6 @@ pub append_told-then : {A : Type 0} (told mid new : Option (List A)) (first seco
 append_told-then {A = A} told mid new first second one two =
     two ∙ ap (λ (known : Option (List A)). append_told known second) one ∙ append_told-append_told told first second
 
--- none of these files was taken
-pub TakesFirst-none : (names : List (List ℕ)) (taken : Option (List (List ℕ))) → TakesFirst names taken taken
-TakesFirst-none names taken = record { first = []; rest = names; whole = refl; taken = sym (append_told-nil taken) }
-
--- all of them were
-pub TakesFirst-all : {before now : Option (List (List ℕ))} (names : List (List ℕ)) → now ≡ append_told before names → TakesFirst names before now
-TakesFirst-all names added = record { first = names; rest = []; whole = sym (append-nil names); taken = added }
-
 -- those first ones of some files are first ones of these and more
 pub TakesFirst-more : {before now : Option (List (List ℕ))} {names : List (List ℕ)} → TakesFirst names before now → (more : List (List ℕ)) → TakesFirst (names ++ more) before now
 TakesFirst-more {before} {now} {names} takes more =
@@ -46,13 +38,6 @@ TakesFirst-then {mid} {now} {more} before names all takes =
       whole = ap (λ (others : List (List ℕ)). names ++ others) takes.whole ∙ sym (append_assoc names takes.first takes.rest);
       taken = append_told-then before mid now names takes.first all takes.taken;
     }
-
--- one call takes its file, if memory isn't wanted
-pub TakesFirst-one : {X : Type 0} {now : Option (List (List ℕ))} (result : Result X TakeFault) (before : Option (List (List ℕ))) (name : List ℕ) → now ≡ after_taking result before name → TakesFirst (name ∷ []) before now
-TakesFirst-one (Ok _) before name noted = TakesFirst-all (name ∷ []) noted
-TakesFirst-one (Err Failed) before name noted = TakesFirst-all (name ∷ []) noted
-TakesFirst-one (Err TooLong) before name noted = TakesFirst-all (name ∷ []) noted
-TakesFirst-one (Err Memory) before name noted = rw noted (TakesFirst-none (name ∷ []) before)
 
 -- where a call comes to its end that follows one which took all of its files, all of both were taken
 pub OnOk-takes : {T E : Type 0} (result : Result T E) (before mid now : Option (List (List ℕ))) (names more : List (List ℕ)) → mid ≡ append_told before names → OnOk result (now ≡ append_told mid more) → OnOk result (now ≡ append_told before (names ++ more))

@@ -6,11 +6,7 @@ use Rattle.map_bytes.specs.declared.values.FuncEntry.{FuncEntry}
 use Rattle.map_bytes.specs.declared.values.Place.{Place}
 use Rattle.map_bytes.specs.Entries.{Entry}
 use Rattle.tool_report.specs.MapTexts.{function_line, pair_line, pair_lines, record_text, lines_of}
-
-drop_at : {A : Type 0} (xs : List A) (k : ℕ) (x : A) → slice_get xs k ≡ Some x → drop k xs ≡ x ∷ drop (k + 1) xs
-drop_at [] k x at = cc
-drop_at (y ∷ xs) zero x at = ap (λ (first : _). first ∷ xs) (cc)
-drop_at (y ∷ xs) (suc k) x at = let next : suc k + 1 ≡ suc (k + 1) = omega arith in rw next (drop_at xs k x at)
+use Rattle.list_laws.proofs.Places.{drop_at}
 
 -- ---- pairs
 
@@ -48,10 +44,6 @@ rest_next (x ∷ found) left more entry (suc k) at is =
     let next : suc k + 1 ≡ suc (k + 1) = omega arith in
     rw next (rest_next found left more entry k at is)
 
-pub none_text : (left : List Entry) (n : ℕ) → left ≡ [] → flat_map record_text (take n left) ≡ []
-none_text left zero none = refl
-none_text left (suc n) none = ap (λ (entries : List Entry). flat_map record_text (take (suc n) entries)) none
-
 -- nothing is left behind a place at which nothing is left
 pub rest_none : (found left : List Entry) (k count : ℕ) → left ≡ drop k found → left ≡ [] → k ≤ count → drop count found ≡ []
 rest_none found left k count at none over =
@@ -68,6 +60,3 @@ function_next functions found later k function at rest =
     ap (λ (fs : List FuncEntry). lines_of fs found) (drop_at functions k function at)
     ∙ sym (append_assoc (function_line function) (flat_map record_text (take function.records found)) (lines_of (drop (k + 1) functions) (drop function.records found)))
     ∙ ap (λ (es : List Entry). (function_line function ++ flat_map record_text (take function.records found)) ++ lines_of (drop (k + 1) functions) es) (sym rest)
-
-pub functions_end : (functions : List FuncEntry) (found : List Entry) (k : ℕ) → length functions ≤ k → lines_of (drop k functions) found ≡ []
-functions_end functions found k over = ap (λ (fs : List FuncEntry). lines_of fs found) (drop_of_length-le functions over)

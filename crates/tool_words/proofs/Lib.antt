@@ -11,4 +11,4 @@ mod Rules
 mod Steps
 mod Takes
 mod Uses
-mod Worked
+mod Samples

@@ -9,16 +9,12 @@ use Rattle.clap.specs.Walk.{Held, Row, Text, Walk, has_row, nothing_held, settle
 use Rattle.clap.specs.declared.parser.matches.ValueSource.TheVariants.{DefaultValue}
 use Rattle.clap.specs.declared.builder.value_parser.Reading.TheVariants.{AsWritten}
 use Rattle.tool_words.specs.Reader.{reader_app}
-use Rattle.tool_words.proofs.Basics.{cond_same}
 use Rattle.tool_words.proofs.Items.{run}
 use Rattle.tool_words.proofs.Refusals.{Refuses}
 use Rattle.tool_words.proofs.Rows.{added_new, added_other, has_row_at, row_at}
 use Rattle.tool_words.proofs.Rules.{flag_built, map_built, rules, shape, words_built}
 use Rattle.tool_words.proofs.Steps.{or_else_none, turn}
-
-then_refuses : (a b : Kinds) → Refuses b → Refuses (or_else a b)
-then_refuses [] b h = h
-then_refuses (fault ∷ faults) b h = tt
+use Rattle.list_laws.proofs.Booleans.{cond_same}
 
 -- ---- defaults, behind the walk
 

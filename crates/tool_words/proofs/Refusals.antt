@@ -10,18 +10,15 @@ use Rattle.clap.specs.Kinds.{Kinds, or_else}
 use Rattle.clap.specs.Lexer.{has_byte, long_of, name_and_value, short_of}
 use Rattle.clap.specs.Walk.{Held, Row, Text, Waiting, Walk, idle, option, positional, arg_by_long}
 use Rattle.tool_words.specs.Words.{Given, raw, places, trace, trust, is_plain, option_of}
-use Rattle.tool_words.proofs.Basics.{same_text, some≢none}
+use Rattle.tool_words.proofs.Basics.{some≢none}
 use Rattle.tool_words.proofs.Rules.{by_other, by_places, by_raw, by_trace, by_trust, flag_built, rules}
 use Rattle.tool_words.proofs.Steps.{held, state, turn}
+use Rattle.list_laws.proofs.Contents.{same_bytes}
 
 -- there is a fault
 abbrev pub Refuses : Kinds → Type 0
 Refuses [] = ⊥
 Refuses (fault ∷ faults) = ⊤
-
-pub first_refuses : (a b : Kinds) → Refuses a → Refuses (or_else a b)
-first_refuses [] b h = absurd h
-first_refuses (fault ∷ faults) b h = h
 
 abbrev is_equals : ℕ → Bool
 is_equals byte = byte == 61
@@ -135,7 +132,7 @@ module _ (waiting : Waiting) (rows : List Row) (pending : Option (Text × List T
     flag_refused flag given gives found none same = go (has_byte 61 (byte ∷ bytes)) refl
       where
         is : flag ≡ front
-        is = same_text _ _ same
+        is = same_bytes _ _ same
 
         go : (b : Bool) → has_byte 61 (byte ∷ bytes) ≡ b → Refuses (turn name at word)
         go false no_equals = absurd (some≢none given (sym gives ∙ ap option_of (sym (whole_word flag is no_equals)) ∙ none))
@@ -174,7 +171,7 @@ module _ (waiting : Waiting) (rows : List Row) (pending : Option (Text × List T
         map_named is true equals = absurd (some≢none _ (sym (ap option_of (valued_word (codes "map") is equals)) ∙ none))
 
         on_map : (b : Bool) → bytes_eq (codes "map") front ≡ b → Refuses (turn name at word)
-        on_map true same = map_named (same_text _ _ same) (has_byte 61 (byte ∷ bytes)) refl
+        on_map true same = map_named (same_bytes _ _ same) (has_byte 61 (byte ∷ bytes)) refl
         on_map false e = on_raw (bytes_eq (codes "raw") front) refl e
 
   -- a word that isn't plain, nor `--` nor `--map`, and gives no option

@@ -8,8 +8,9 @@ use Rattle.clap.specs.declared.builder.value_parser.Reading.TheVariants.{AsWritt
 use Rattle.clap.specs.declared.parser.matches.ValueSource.{ValueSource}
 use Rattle.clap.specs.declared.parser.matches.ValueSource.TheVariants.{CommandLine}
 use Rattle.tool_words.specs.Words.{Given, raw, places, trace, trust, map_in, Parts, is_given, is_nonempty, names_nothing, same_option}
-use Rattle.tool_words.proofs.Basics.{any_is_found, find_last, find_more, find_none, map_some, option_map_none, same_text, some≢none}
+use Rattle.tool_words.proofs.Basics.{any_is_found, find_last, find_more, find_none, map_some, option_map_none, some≢none}
 use Rattle.tool_words.proofs.Items.{Item, word, given, use_item, use_items}
+use Rattle.list_laws.proofs.Contents.{same_bytes}
 
 -- ---- one row by its id
 
@@ -72,7 +73,7 @@ module _ (id : Text) where
       where
         go : (b : Bool) → bytes_eq row.id id ≡ b → row_at other (added rows) ≡ row_at other rows → row_at other (added (row ∷ rows)) ≡ row_at other (row ∷ rows)
         go true e later =
-            let is : bytes_eq row.id other ≡ false = ap (λ (t : Text). bytes_eq t other) (same_text row.id id e) ∙ differs in
+            let is : bytes_eq row.id other ≡ false = ap (λ (t : Text). bytes_eq t other) (same_bytes row.id id e) ∙ differs in
             rw (e, is) refl
         go false e later = rw e (ap (λ (o : Option Row). cond (bytes_eq row.id other) (Some row) o) later)
 
@@ -82,7 +83,7 @@ module _ (id : Text) where
     where
       go : (b : Bool) → bytes_eq row.id id ≡ b → row_at other (without id rows) ≡ row_at other rows → row_at other (without id (row ∷ rows)) ≡ row_at other (row ∷ rows)
       go true e later =
-          let is : bytes_eq row.id other ≡ false = ap (λ (t : Text). bytes_eq t other) (same_text row.id id e) ∙ differs in
+          let is : bytes_eq row.id other ≡ false = ap (λ (t : Text). bytes_eq t other) (same_bytes row.id id e) ∙ differs in
           rw (e, is) refl
       go false e later = rw e (ap (λ (o : Option Row). cond (bytes_eq row.id other) (Some row) o) later)
 
@@ -212,7 +213,7 @@ module _ (rows : List Row) (parts : Parts) (known : Known rows parts) where
           ∙ ap (option_map row_of_option) (sym (find_more (same_option other) parts.options one differs))
       options other true e =
           let ties : same_option other one ≡ true = same_back other one ∙ same_ids one other ∙ e in
-          let ids : id_of one ≡ id_of other = same_text _ _ e in
+          let ids : id_of one ≡ id_of other = same_bytes _ _ e in
           let none_found : find (same_option other) parts.options ≡ None =
           option_map_none row_of_option _ (sym (known.options other) ∙ ap (λ (id : Text). row_at id rows) (sym ids) ∙ absent one none) in
           ap (λ (id : Text). row_at id (with_values (id_of one) AsWritten CommandLine (texts_of one) rows)) (sym ids)

@@ -21,10 +21,6 @@ rules = words_built ∷ map_built ∷ flag_built (codes "raw") ∷ flag_built (c
 abbrev pub shape : Text → Shape
 shape name = record (new_shape name) { rules = rules; disable_help_flag = true; disable_help_subcommand = true; is_built = true }
 
-pub built_is : (name : Text) → (built (reader_app name)).top ≡ shape name
-unfolding rules
-built_is name = refl
-
 pub is_simple_reader : (name : Text) → is_simple (reader_app name) ≡ true
 is_simple_reader name = refl
 
@@ -34,22 +30,6 @@ is_free_reader name = refl
 pub by_words : arg_by_id rules (codes "words") ≡ Some words_built
 unfolding rules
 by_words = refl
-
-pub by_map : arg_by_id rules (codes "map") ≡ Some map_built
-unfolding rules
-by_map = refl
-
-pub by_position : arg_by_index rules 1 ≡ Some words_built
-unfolding rules
-by_position = refl
-
-pub by_letter : (letter : ℕ) → arg_by_short rules letter ≡ None
-unfolding rules
-by_letter letter = refl
-
-pub by_long_map : arg_by_long rules (codes "map") ≡ Some map_built
-unfolding rules
-by_long_map = refl
 
 pub by_raw : arg_by_long rules (codes "raw") ≡ Some (flag_built (codes "raw"))
 unfolding rules

@@ -41,11 +41,6 @@ spelled trace = codes "--trace"
 spelled trust = codes "--trust"
 spelled (map_in file) = codes "--map=" ++ file
 
-pub no_subcommand : (waiting : Waiting) (word : Text) → subcommand_met [] waiting word ≡ None
-no_subcommand idle word = refl
-no_subcommand (option id) word = refl
-no_subcommand positional word = refl
-
 pub or_else_none : (faults : Kinds) → or_else faults [] ≡ faults
 or_else_none [] = refl
 or_else_none (fault ∷ faults) = refl

@@ -7,10 +7,11 @@ use Rattle.clap.specs.Kinds.{Kinds, or_else}
 use Rattle.clap.specs.Lexer.{long_of, short_of}
 use Rattle.clap.specs.Walk.{Row, Text, Waiting, idle, option, positional}
 use Rattle.tool_words.specs.Words.{Given, raw, places, trace, trust, map_in, is_plain, option_of}
-use Rattle.tool_words.proofs.Basics.{and_then_none, and_then_some, same_text}
+use Rattle.tool_words.proofs.Basics.{and_then_none, and_then_some}
 use Rattle.tool_words.proofs.Items.{Item, word, given, before, items_behind_map, items_of, past, past_settled, run, run_refused, run_step, settle, settle_map, settle_waiting, settle_word, unless, use_item, use_items, words_items}
 use Rattle.tool_words.proofs.Refusals.{refused}
 use Rattle.tool_words.proofs.Steps.{dashes, file_step, held, map_alone, map_pending, option_step, plain_step, rule_for, settled_now, settling, spelled, state, trailing_step, used_now, values_for, word_pending}
+use Rattle.list_laws.proofs.Contents.{same_bytes}
 
 -- each word is text
 abbrev pub AreTexts : List Text → Type 0
@@ -49,7 +50,7 @@ plain_dashes text plain = go (bytes_eq text (codes "--")) refl
   where
     go : (b : Bool) → bytes_eq text (codes "--") ≡ b → bytes_eq text (codes "--") ≡ false
     go false e = e
-    go true e = absurd (true≢false (sym plain ∙ ap is_plain (same_text text (codes "--") e)))
+    go true e = absurd (true≢false (sym plain ∙ ap is_plain (same_bytes text (codes "--") e)))
 
 -- a word that gives an option alone is spelled so
 option_spelled : (text : Text) (one : Given) → option_of text ≡ Some one → text ≡ spelled one
@@ -59,7 +60,7 @@ option_spelled text one gives = on_raw (bytes_eq text (codes "--raw")) refl
         → bytes_eq text (codes "--trace") ≡ false → bytes_eq text (codes "--trust") ≡ false → text ≡ spelled one
     on_map true e no_raw no_places no_trace no_trust =
         let is : Some (map_in (drop 6 text)) ≡ Some one = sym (rw (no_raw, no_places, no_trace, no_trust, e) refl) ∙ gives in
-        let joined : text ≡ spelled (map_in (drop 6 text)) = sym (take-append-drop 6 text) ∙ ap (λ (front : Text). front ++ drop 6 text) (same_text _ _ e) in
+        let joined : text ≡ spelled (map_in (drop 6 text)) = sym (take-append-drop 6 text) ∙ ap (λ (front : Text). front ++ drop 6 text) (same_bytes _ _ e) in
         joined ∙ ap spelled (let one_is : map_in (drop 6 text) ≡ one = cc in one_is)
     on_map false e no_raw no_places no_trace no_trust =
         let is : None ≡ Some one = sym (rw (no_raw, no_places, no_trace, no_trust, e) refl) ∙ gives in
@@ -69,25 +70,25 @@ option_spelled text one gives = on_raw (bytes_eq text (codes "--raw")) refl
         → bytes_eq text (codes "--trace") ≡ false → text ≡ spelled one
     on_trust true e no_raw no_places no_trace =
         let is : Some trust ≡ Some one = sym (rw (no_raw, no_places, no_trace, e) refl) ∙ gives in
-        same_text _ _ e ∙ ap spelled (let one_is : trust ≡ one = cc in one_is)
+        same_bytes _ _ e ∙ ap spelled (let one_is : trust ≡ one = cc in one_is)
     on_trust false e no_raw no_places no_trace = on_map (bytes_eq (take 6 text) (codes "--map=")) refl no_raw no_places no_trace e
 
     on_trace : (b : Bool) → bytes_eq text (codes "--trace") ≡ b → bytes_eq text (codes "--raw") ≡ false → bytes_eq text (codes "--places") ≡ false → text ≡ spelled one
     on_trace true e no_raw no_places =
         let is : Some trace ≡ Some one = sym (rw (no_raw, no_places, e) refl) ∙ gives in
-        same_text _ _ e ∙ ap spelled (let one_is : trace ≡ one = cc in one_is)
+        same_bytes _ _ e ∙ ap spelled (let one_is : trace ≡ one = cc in one_is)
     on_trace false e no_raw no_places = on_trust (bytes_eq text (codes "--trust")) refl no_raw no_places e
 
     on_places : (b : Bool) → bytes_eq text (codes "--places") ≡ b → bytes_eq text (codes "--raw") ≡ false → text ≡ spelled one
     on_places true e no_raw =
         let is : Some places ≡ Some one = sym (rw (no_raw, e) refl) ∙ gives in
-        same_text _ _ e ∙ ap spelled (let one_is : places ≡ one = cc in one_is)
+        same_bytes _ _ e ∙ ap spelled (let one_is : places ≡ one = cc in one_is)
     on_places false e no_raw = on_trace (bytes_eq text (codes "--trace")) refl no_raw e
 
     on_raw : (b : Bool) → bytes_eq text (codes "--raw") ≡ b → text ≡ spelled one
     on_raw true e =
         let is : Some raw ≡ Some one = sym (rw e refl) ∙ gives in
-        same_text _ _ e ∙ ap spelled (let one_is : raw ≡ one = cc in one_is)
+        same_bytes _ _ e ∙ ap spelled (let one_is : raw ≡ one = cc in one_is)
     on_raw false e = on_places (bytes_eq text (codes "--places")) refl e
 
 -- ---- what the words behind it are
@@ -170,13 +171,13 @@ module _ (name : Text) where
       from_dashes : bytes_eq text (codes "--") ≡ true
           → run name (state waiting false (held rows pending)) (text ∷ rest) ≡ option_and_then (use_items (words_items rest)) (settle name (held rows pending))
       from_dashes e =
-          ap (λ (t : Text). run name (state waiting false (held rows pending)) (t ∷ rest)) (same_text text (codes "--") e)
+          ap (λ (t : Text). run name (state waiting false (held rows pending)) (t ∷ rest)) (same_bytes text (codes "--") e)
           ∙ run_step name _ _ (codes "--") rest _ (dashes name waiting (held rows pending)) ∙ trailing_uses rest waiting rows pending
 
       from_map : UsesBehindMap rest → bytes_eq text (codes "--map") ≡ true
           → run name (state waiting false (held rows pending)) (text ∷ rest) ≡ option_and_then (use_these (items_behind_map rest)) (settle name (held rows pending))
       from_map behind e =
-          ap (λ (t : Text). run name (state waiting false (held rows pending)) (t ∷ rest)) (same_text text (codes "--map") e)
+          ap (λ (t : Text). run name (state waiting false (held rows pending)) (t ∷ rest)) (same_bytes text (codes "--map") e)
           ∙ run_step name _ _ (codes "--map") rest _ (map_alone name rows pending waiting)
           ∙ past_settled name (held rows pending) (use_these (items_behind_map rest)) _ (behind (settled_now name rows pending) rest_are)
 

@@ -304,7 +304,3 @@ first_is next (block ∷ blocks) (suc number) within =
     let rest = first_is (after_all next block.insts) blocks number (omega arith) in
     let own = after_is next block.insts in
     rest ∙ (let same : after_all next block.insts + before_block blocks number ≡ next + (result_count block + before_block blocks number) = omega (arith, own) in same)
-
-pub registers_length : (next : ℕ) (blocks : List BasicBlock) → length (first_registers next blocks) ≡ length blocks + 1
-registers_length next [] = omega arith
-registers_length next (block ∷ blocks) = let rest = registers_length (after_all next block.insts) blocks in omega arith

@@ -24,6 +24,7 @@ use Rattle.unreached_laws.proofs.RegisterLaws.{before_none, entered_kept, put_ke
 use Rattle.unreached_laws.proofs.Keepings.{Keeping, KeepsBlocks, LineStays, Takes, is_grouped, line_kept, with_lines}
 use Rattle.unreached_laws.proofs.PhiLaws.{behind_kept, is_phi_line, phis_same}
 use Rattle.unreached_laws.proofs.Related.{FrameStays, Goes, Stays, TaskStays, image, image_of}
+use Rattle.renaming_laws.proofs.StepLaws.{arrived_is}
 
 -- a frame behind the phis of a block
 abbrev behind_phis : Frame → ℕ → List Line → Frame
@@ -32,13 +33,6 @@ behind_phis frame block lines = record frame {
   rest = behind is_phi_line lines;
   registers = put_all (map (phi_write frame.block frame.registers) (before is_phi_line lines)) frame.registers;
 }
-
-arrived_is : (frame : Frame) (block : ℕ) (lines : List Line) → arrived frame block lines ≡ behind_phis frame block lines
-arrived_is frame block lines =
-    ap (λ rest. record frame { block = block; rest = rest; registers = put_all (map (phi_write frame.block frame.registers) (take (phi_count lines) lines)) frame.registers })
-    (drop_behind is_phi_line lines)
-    ∙ ap (λ phis. record frame { block = block; rest = behind is_phi_line lines; registers = put_all (map (phi_write frame.block frame.registers) phis) frame.registers })
-    (take_before is_phi_line lines)
 
 all_behind : (P : Line → Type 0) (test : Line → Bool) (lines : List Line) → All P lines → All P (behind test lines)
 all_behind P test [] all = all

@@ -21,6 +21,7 @@ use Rattle.object_meaning.specs.Lines.{Line}
 use Rattle.object_meaning.specs.States.{Setting}
 use Rattle.renaming_laws.proofs.ListLaws.{all_first, all_rest}
 use Rattle.unreached_laws.proofs.RegisterLaws.{OperandStays, before_none}
+use Rattle.ir_cfg.proofs.KeepsUses.{plain_operands as left_of, plain_labels as labels_left_of}
 
 -- how many arguments a function has, and which of its blocks and of its registers are kept
 pub record Keeping : Type 0 where
@@ -93,17 +94,9 @@ operands_of : (kept : Kept) (op : Op) (labels : List BlockId) (operands : List O
 operands_of kept Phi labels operands plain = absurd (true≢false plain)
 operands_of kept op labels operands plain = refl
 
-left_of : (kept : Kept) (op : Op) (labels : List BlockId) (operands : List Operand) → is_phi op ≡ false → operands_left kept op labels operands ≡ operands
-left_of kept Phi labels operands plain = absurd (true≢false plain)
-left_of kept op labels operands plain = refl
-
 labels_of : (kept : Kept) (op : Op) (labels : List BlockId) → is_phi op ≡ false → labels_kept kept op labels ≡ map (label_kept kept) labels
 labels_of kept Phi labels plain = absurd (true≢false plain)
 labels_of kept op labels plain = refl
-
-labels_left_of : (kept : Kept) (op : Op) (labels : List BlockId) → is_phi op ≡ false → labels_left kept op labels ≡ labels
-labels_left_of kept Phi labels plain = absurd (true≢false plain)
-labels_left_of kept op labels plain = refl
 
 module _ (keepings : ℕ → Keeping) (func : ℕ) (line : Line) (stays : LineStays keepings func line) (plain : is_phi line.inst.op ≡ false) where
   pub plain_operands : (line_kept (keepings func) line).inst.operands ≡ map (operand_kept (numbers (keepings func))) line.inst.operands

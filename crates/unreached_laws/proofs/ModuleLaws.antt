@@ -52,7 +52,8 @@ use Rattle.object_meaning.specs.Texts.{function_name}
 use Rattle.unreached_laws.proofs.RegisterLaws.{OperandStays}
 use Rattle.unreached_laws.proofs.Keepings.{ArgumentsFit, CalleeTakes, Keeping, KeepsBlocks, LineStays, Takes, is_grouped, line_kept, numbers, with_lines}
 use Rattle.unreached_laws.proofs.RunLaws.{same_outcome}
-use Rattle.unreached_laws.proofs.BlockLines.{InstStays, ResultsStay, before_block, before_left, before_mapped, first_is, length_kept, lines_same, lines_stay, marks_count, poll_stays, registers_length, results_marked}
+use Rattle.unreached_laws.proofs.BlockLines.{InstStays, ResultsStay, before_block, before_left, before_mapped, first_is, length_kept, lines_same, lines_stay, marks_count, poll_stays, results_marked}
+use Rattle.object_meaning.proofs.LineLaws.{count_registers}
 
 -- ---- what is kept of each function
 
@@ -119,7 +120,7 @@ register_same marks func number whole within =
     ∙ ap (marks_before (value_marks marks func)) (sym (first_is (length func.args) func.blocks number within))))
 
 last_place : (func : Function) → length (registers_of func) - 1 ≡ length func.blocks
-last_place func = let long = registers_length (length func.args) func.blocks in omega arith
+last_place func = let long = count_registers (length func.args) func.blocks in omega arith
 
 all_registers : (marks : List Bool) (func : Function) → slice_index (registers_of func) (length func.blocks) ≡ length (value_marks marks func)
 all_registers marks func =

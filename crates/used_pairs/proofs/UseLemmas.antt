@@ -20,11 +20,14 @@ use Rattle.pair_facts.specs.Lines.{lines_at, line_in, no_line, head_at, head_her
 use Rattle.pair_facts.specs.Uses.{Use, Uses, relocates, checks, compares, escapes, Relocates, entries_used, entries_at, checked, compared, escaping, pointers_of}
 use Rattle.fact_tables.specs.Homes.{IsBefore}
 use Rattle.fact_tables.specs.Notes.{head_before}
-use Rattle.fact_tables.proofs.LineLemmas.{plain_at, insts_are, length-plain_lines}
+use Rattle.fact_tables.proofs.LineLemmas.{insts_are}
 use Rattle.fact_tables.proofs.NoteLemmas.{inst_at}
 use Rattle.used_pairs.specs.declared.uses.UsedPair.{UsedPair}
 use Rattle.used_pairs.specs.Places.{is_pointer_at, entries_pair}
 use Rattle.used_pairs.specs.Lists.{use_in, use_with, IsUse, AreUsed, own_used, of_head, relocated_used, checked_used, compared_used, listed}
+use Rattle.fact_tables.proofs.GroupLemmas.{head_next}
+use Rattle.object_meaning.proofs.LineLaws.{plain_at, plain_count}
+use Rattle.fact_tables.proofs.HomeLemmas.{before_cases}
 
 -- ---- pointers among operands
 
@@ -72,21 +75,9 @@ pointers_kept types operands place operand old all at none before =
 
 -- ---- places
 
-earlier_too : (block place until_block until : ℕ) → IsBefore block place until_block until → IsBefore block place until_block (until + 1)
+pub earlier_too : (block place until_block until : ℕ) → IsBefore block place until_block until → IsBefore block place until_block (until + 1)
 earlier_too block place until_block until (inl earlier) = inl earlier
 earlier_too block place until_block until (inr (same, below)) = inr (same, omega arith)
-
-before_cases : (block place until_block until : ℕ) → IsBefore block place until_block (until + 1)
-    → IsBefore block place until_block until ⊎ ((block ≡ until_block) × (place ≡ until))
-before_cases block place until_block until (inl earlier) = inl (inl earlier)
-before_cases block place until_block until (inr (same, below)) = elim (cases_lt place until) [
-  | inl less ↦ inl (inr (same, less))
-  | inr past ↦ inr (same, omega arith)
-]
-
-head_next : (lines : List Line) (place : ℕ) → head_here (line_in lines place).inst.op place (head_before lines place) ≡ head_at lines place
-head_next lines zero = refl
-head_next lines (suc place) = refl
 
 pub head_more : (func : Function) (block place : ℕ) (head found : Option ℕ) (inst : Instruction) → slice_get (insts_in func block) place ≡ Some inst
     → found ≡ head_here inst.op place head → head ≡ head_before (lines_at func block) place → found ≡ head_at (lines_at func block) place
@@ -112,7 +103,7 @@ head_low lines (suc place) head at =
 stands_within : (func : Function) (block place : ℕ) (line : Line) → slice_get (lines_at func block) place ≡ Some line → place < length (insts_in func block)
 stands_within func block place line stands =
     let within = slice_get_within (lines_at func block) place line stands in
-    let long = length-plain_lines (slice_index (registers_of func) block) (insts_in func block) in
+    let long = plain_count (slice_index (registers_of func) block) (insts_in func block) in
     omega (arith, within, long)
 
 -- ---- what is listed is used

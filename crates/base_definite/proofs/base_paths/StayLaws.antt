@@ -29,6 +29,7 @@ use Rattle.base_definite.specs.Comings.{DefinedSince, just_now, over_edge, past_
 use Rattle.base_definite.specs.Paths.{BasesStay, HasDefiniteBases}
 use Rattle.base_definite.proofs.base_paths.GivesLaws.{defines_gives, given_high, given_named, gives_at, one_text_place, one_value, stands_one}
 use Rattle.base_definite.proofs.base_paths.UndefinedLaws.{Undefined, at_first, behind_edge, behind_line, first_time, last_defines_none, undefined_unused}
+use Rattle.ir_ast.proofs.OpLaws.{merge_goes_on}
 
 -- ---- how a pointer has a base
 
@@ -90,11 +91,6 @@ step_is_no_phi : (op : Op) → is_step op ≡ true → is_phi op ≡ false
 step_is_no_phi (ops.Gep elem width place) step = refl
 step_is_no_phi op step = absurd cc
 
-merge_goes_on : (op : Op) → is_merge op ≡ true → is_terminator op ≡ false
-merge_goes_on ops.Phi merge = refl
-merge_goes_on ops.Select merge = refl
-merge_goes_on op merge = absurd cc
-
 operand_used : (inst : Instruction) (value : ValueId) → slice_get inst.operands 0 ≡ Some (Value value) → Contains (values_used inst) value.0
 operand_used inst value first =
     let at = get_front inst.operands (map (λ entry. entry.1) inst.bundle) 0 (Value value) first in
@@ -104,7 +100,7 @@ operand_used inst value first =
 -- ---- the line before a merge
 
 -- the end of the text of a block is its terminator
-last_of_block : (func : Function) → All (λ block. EndsAtTerminator block.insts) func.blocks → (number : ℕ) (block : BasicBlock) → slice_get func.blocks number ≡ Some block
+pub last_of_block : (func : Function) → All (λ block. EndsAtTerminator block.insts) func.blocks → (number : ℕ) (block : BasicBlock) → slice_get func.blocks number ≡ Some block
     → (place : ℕ) × (length block.insts ≡ place + 1) × ((inst : Instruction) → Stands func number place inst → is_terminator inst.op ≡ true)
 last_of_block func ends number block found =
     let ended = all_at (λ (each : BasicBlock). EndsAtTerminator each.insts) func.blocks number block ends found in
@@ -119,7 +115,7 @@ last_of_block func ends number block found =
     )
 
 -- what stands directly before a place in the text stands before it in its block, if it is no terminator
-text_before : (func : Function) → All (λ block. EndsAtTerminator block.insts) func.blocks → (number place : ℕ) (inst : Instruction) → Stands func number place inst
+pub text_before : (func : Function) → All (λ block. EndsAtTerminator block.insts) func.blocks → (number place : ℕ) (inst : Instruction) → Stands func number place inst
     → (line : Instruction) (at : ℕ) → slice_get (instructions_of func.blocks) at ≡ Some line → is_terminator line.op ≡ false → suc at ≡ text_place func number place
     → (before : ℕ) × (place ≡ suc before) × Stands func number before line
 text_before func ends number (suc before) inst stands line at there goes_on next =

@@ -1,8 +1,8 @@
 -- Whether a path to a place meets a definition is decided.
 use Rattle.std.proofs.Common.{◌≡◌, ◌∙◌, ◌⊎◌, ℕ, zero, suc, ◌<◌, ◌≤◌, inl, inr, refl, sym, ap, subst, Bool, true, false, List, [], ◌∷◌, ◌++◌, length, Option, Some, None, arith}
 use Rattle.std.specs.Prelude.{slice_get, is_some}
-use Rattle.std.proofs.lemmas.Bool.{cases_eq, cases_order}
-use Rattle.std.proofs.lemmas.Option.{slice_get_within}
+use Rattle.std.proofs.lemmas.Bool.{cases_eq, cases_order, cases_lt}
+use Rattle.std.proofs.lemmas.Option.{slice_get_within, same_Some}
 use Rattle.ir_ast.specs.Blocks.{BasicBlock}
 use Rattle.ir_ast.specs.Faults.GroupShape.{number_at}
 use Rattle.ir_ast.specs.Funcs.{Function}
@@ -14,25 +14,14 @@ use Rattle.ir_cfg.specs.Paths.{Path, at_entry, along}
 abbrev Decided : Type 0 → Type 0
 Decided P = P ⊎ (¬ P)
 
-less_or_not : (n m : ℕ) → (n < m) ⊎ (m ≤ n)
-less_or_not n m = by (cases_order n m)
-  where
-    by : (n ≡ m) ⊎ ((n < m) ⊎ (m < n)) → (n < m) ⊎ (m ≤ n)
-    by (inl same) = inr (omega (arith, same))
-    by (inr (inl below)) = inl below
-    by (inr (inr above)) = inr (omega (arith, above))
-
-same_one : {A : Type 0} (x y : A) → Some x ≡ Some y → x ≡ y
-same_one x y e = cc
-
 module _ (func : Function) (value : ℕ) where
   -- ---- one place
 
   stands_as : (block at : ℕ) (here : BasicBlock) (inst : Instruction) → slice_get func.blocks block ≡ Some here → slice_get here.insts at ≡ Some inst
       → (d : Defines func value block at) → d.inst ≡ inst
   stands_as block at here inst in_function in_block d =
-      let same : d.stands.block ≡ here = same_one d.stands.block here (sym d.stands.in_function ∙ in_function) in
-      same_one d.inst inst (sym (subst (λ (b : BasicBlock). slice_get b.insts at ≡ Some d.inst) same d.stands.in_block) ∙ in_block)
+      let same : d.stands.block ≡ here = same_Some d.stands.block here (sym d.stands.in_function ∙ in_function) in
+      same_Some d.inst inst (sym (subst (λ (b : BasicBlock). slice_get b.insts at ≡ Some d.inst) same d.stands.in_block) ∙ in_block)
 
   numbered : (block at : ℕ) (here : BasicBlock) (inst : Instruction) → slice_get func.blocks block ≡ Some here → slice_get here.insts at ≡ Some inst
       → is_some inst.result ≡ true → Decided (Defines func value block at)
@@ -53,7 +42,7 @@ module _ (func : Function) (value : ℕ) where
       → slice_get here.insts at ≡ found → Decided (Defines func value block at)
   in_block_found block at here in_function (Some inst) is = named block at here inst in_function is (is_some inst.result) refl
   in_block_found block at here in_function None is =
-      inr (λ d. let same : d.stands.block ≡ here = same_one d.stands.block here (sym d.stands.in_function ∙ in_function) in
+      inr (λ d. let same : d.stands.block ≡ here = same_Some d.stands.block here (sym d.stands.in_function ∙ in_function) in
       let bad : Some d.inst ≡ None = sym (subst (λ (b : BasicBlock). slice_get b.insts at ≡ Some d.inst) same d.stands.in_block) ∙ is in cc)
 
   block_found : (block at : ℕ) (found : Option BasicBlock) → slice_get func.blocks block ≡ found → Decided (Defines func value block at)
@@ -90,7 +79,7 @@ module _ (func : Function) (value : ℕ) where
 
   all_below : (block : ℕ) (here : BasicBlock) → slice_get func.blocks block ≡ Some here → (at : ℕ) → Defines func value block at → at < length here.insts
   all_below block here in_function at d =
-      let same : d.stands.block ≡ here = same_one d.stands.block here (sym d.stands.in_function ∙ in_function) in
+      let same : d.stands.block ≡ here = same_Some d.stands.block here (sym d.stands.in_function ∙ in_function) in
       slice_get_within here.insts at d.inst (subst (λ (b : BasicBlock). slice_get b.insts at ≡ Some d.inst) same d.stands.in_block)
 
   somewhere_in : (block : ℕ) (found : Option BasicBlock) → slice_get func.blocks block ≡ found → Decided (Somewhere block)
@@ -197,4 +186,4 @@ module _ (func : Function) (value : ℕ) where
 pub meets_or_not : (func : Function) (value : ℕ) (path : List ℕ) (block place : ℕ) → Path (graph_of func) path block
     → Meets func value path place ⊎ (¬ Meets func value path place)
 meets_or_not func value path block place leads =
-    by_arguments func value path block place (ends_in func value (graph_of func) path block leads) (less_or_not value (length func.args))
+    by_arguments func value path block place (ends_in func value (graph_of func) path block leads) (cases_lt value (length func.args))

@@ -17,7 +17,7 @@ use Rattle.object_meaning.specs.Effects.{Effect, Progress, goes_on, prints, ends
 use Rattle.object_meaning.specs.Lines.{Line}
 use Rattle.object_meaning.specs.Runs.{Next, Go, End as Over, goes, advance}
 use Rattle.object_meaning.specs.Traces.{Event, at_poll, at_new, event_at, event_of, events_at, done_at, traced}
-use Rattle.object_meaning.proofs.RunLaws.{goes_over}
+use Rattle.object_meaning.proofs.RunLaws.{goes_over, traced_over}
 use Rattle.machine_meaning.specs.Code.{machinery_of}
 use Rattle.machine_meaning.specs.EventPlaces.{MovePlan, Occasion, made_at, makes, moved_at, polls, stands_at_event, flip_of}
 use Rattle.machine_meaning.specs.Happenings.{Happening, happening, happening_by, happenings_at}
@@ -165,10 +165,6 @@ module _ (plan : MovePlan) where
         stands = ends_so.0;
         verdicts_are = refl;
       })
-
-traced_over : {E A T : Type 0} (did : A → List T) (step : A → Next E A) (count : ℕ) (end : E) (last : A) → traced did step count (Over end last) ≡ []
-traced_over did step zero end last = refl
-traced_over did step (suc count) end last = traced_over did step count end last
 
 over_at : End → Progress Machine → Next End (Progress Machine)
 over_at end last = Over end last

@@ -40,6 +40,7 @@ use Rattle.machine_meaning.specs.Machines.{Machine, Machinery, gone_on, lifted, 
 use Rattle.machine_meaning.specs.Moving.{after_walk, eventful, moved_by, moves_due, walked_all}
 use Rattle.machine_meaning.specs.MachineTasks.{allocated_machine, allocating_machine, handed_machine, polled_machine, switched_machine}
 use Rattle.machine_meaning.specs.MachineSteps.{behind_step, calls, checking, denied, loading_word, machine_acts, machine_at, machine_step, returns, storing_word}
+use Rattle.machine_meaning.proofs.PlaceLaws.{still}
 
 -- ---- what a step tells
 
@@ -184,10 +185,6 @@ behind_by plan machine next setting false tells state counts end = λ way. refl
 
 abbrev moved_from : MovePlan → Machine → List Stand
 moved_from plan before = moved_at plan (raised before.state.events) before.heap.stands
-
-still : (stands : List Stand) → map (carried []) stands ≡ stands
-still [] = refl
-still (stand ∷ stands) = ap (λ (rest : List Stand). stand ∷ rest) (still stands)
 
 -- a machine at which the moves of the event have happened
 record IsMoved (plan : MovePlan) (before now : Machine) : Type 0 where

@@ -20,6 +20,7 @@ use Rattle.machine_meaning.specs.MachineSteps.{machine_step}
 use Rattle.tool_report.specs.RunLines.{event_line, moved_line, slot_line}
 use Rattle.run_texts.specs.RunTexts.{event_lines, line_of_move, line_of_slot, lines_from, printed_by, step_lines, trace_lines}
 use Rattle.rewritten_runs.specs.ShownTexts.{is_traced, program_lines}
+use Rattle.run_texts.proofs.TextLaws.{same_lines}
 
 -- ---- lines of a trace
 
@@ -105,10 +106,6 @@ module _ (machinery : Machinery) (trace : Bool) where
       ∙ ap (λ (lines : List (List ℕ)). done_at (λ (progress : Progress Machine). step_lines machinery false progress.state) next ++ lines) (steps_kept count (advance step next)))
 
 -- ---- what the steps print, in order
-
-same_lines : (end other : End) (machine : Machine) (lines : List (List ℕ)) (last : Progress Machine)
-    → Over end (record { state = machine; lines = lines }) ≡ Over other last → last.lines ≡ lines
-same_lines end other machine lines last is = sym (ap (λ (p : Progress Machine). p.lines) (same_over end other (record { state = machine; lines = lines }) last is).last)
 
 abbrev behind_effect : Machinery → ℕ → List (List ℕ) → Effect Machine → List (List ℕ)
 behind_effect machinery count lines effect = printed_by effect ++ lines_from machinery false count (after lines effect)

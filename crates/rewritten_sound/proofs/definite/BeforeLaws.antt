@@ -19,7 +19,7 @@ use Rattle.ir_ast.specs.declared.ops.Operand.{Operand}
 use Rattle.ir_ast.specs.Insts.{Instruction}
 use Rattle.ir_ast.specs.Blocks.{BasicBlock, EndsAtTerminator}
 use Rattle.ir_ast.specs.Edges.{count_of, targets}
-use Rattle.ir_ast.specs.Funcs.{Function, instructions_of}
+use Rattle.ir_ast.specs.Funcs.{Function, instructions_of, phis_of}
 use Rattle.ir_ast.specs.Modules.{ModuleContent}
 use Rattle.ir_ast.specs.Ops.{is_terminator}
 use Rattle.ir_ast.specs.Values.{definitions_of, outcome}
@@ -43,23 +43,14 @@ use Rattle.rewriting_laws.specs.Laws.{Edge, IsPlain, LeadsByEdges, Reached, at_f
 use Rattle.rewriting_laws.specs.Laws as laws
 use Rattle.rewriting_laws.specs.Related.{ArgumentsFit}
 use Rattle.rewriting_laws.specs.Statements.{IsBefore, func_of, no_function, rewritings}
-use Rattle.base_laws.specs.BeforeLiveness.{CallsInShape, IsPlainLine, PassesArguments, PhisStandFirst, arguments_of, begins_with_phi}
+use Rattle.base_laws.specs.BeforeLiveness.{CallsInShape, IsPlainLine, PassesArguments, PhisStandFirst, arguments_of}
 use Rattle.base_laws.proofs.BlockLaws.{after_is, last_register}
 use Rattle.base_laws.proofs.NumberLaws.{definition_count}
 use Rattle.base_definite.proofs.base_paths.GivesLaws.{defines_gives}
 use Rattle.rewritten_sound.specs.LeadsOut.{HasLabels, IsReadyForGroups, LeadsOut}
 use Rattle.rewritten_sound.proofs.definite.LineLaws.{given_defines, line_from, lines_length}
 use Rattle.rewritten_sound.proofs.definite.EdgeLaws.{edge_to, label_edge}
-
-passes_at : {A : Type 0} (test : A → Bool) (xs : List A) (k : ℕ) (x : A) → list_all test xs ≡ true → slice_get xs k ≡ Some x → test x ≡ true
-passes_at test [] k x all at = absurd cc
-passes_at {A} test (first ∷ xs) k x all at = by (test first) refl k at all (λ j there rest. passes_at test xs j x rest there)
-  where
-    by : (t : Bool) → test first ≡ t → (k : ℕ) → slice_get (first ∷ xs) k ≡ Some x → t && list_all test xs ≡ true
-        → ((j : ℕ) → slice_get xs j ≡ Some x → list_all test xs ≡ true → test x ≡ true) → test x ≡ true
-    by false is k at all further = absurd cc
-    by true is zero at all further = let same : first ≡ x = cc in ap test (sym same) ∙ is
-    by true is (suc k) at all further = further k at all
+use Rattle.list_laws.proofs.Tests.{all_passes}
 
 -- only the last one of a list that ends so passes
 last_passes : {A : Type 0} (test : A → Bool) (before : List A) (last : A) (k : ℕ) (x : A) → list_all (λ y. not (test y)) before ≡ true
@@ -68,7 +59,7 @@ last_passes test [] last zero x none at passes = refl
 last_passes test [] last (suc k) x none at passes = absurd cc
 last_passes test (first ∷ before) last zero x none at passes =
     let same : first ≡ x = cc in
-    let here = passes_at (λ y. not (test y)) (first ∷ before) 0 first none refl in
+    let here = all_passes (λ y. not (test y)) (first ∷ before) 0 first none refl in
     let there : test first ≡ true = ap test same ∙ passes in
     absurd cc
 last_passes {A} test (first ∷ before) last (suc k) x none at passes = ap suc (last_passes test before last k x (rest (not (test first)) none) at passes)
@@ -77,7 +68,7 @@ last_passes {A} test (first ∷ before) last (suc k) x none at passes = ap suc (
     rest true all = all
     rest false all = absurd cc
 
-phi_count_is : (next : ℕ) (insts : List Instruction) → phi_count (plain_lines next insts) ≡ begins_with_phi insts
+phi_count_is : (next : ℕ) (insts : List Instruction) → phi_count (plain_lines next insts) ≡ phis_of insts
 phi_count_is next [] = refl
 phi_count_is next (inst ∷ insts) = ap (λ n. if is_phi inst.op then 1 + n else 0) (phi_count_is (following next inst) insts)
 
@@ -136,7 +127,7 @@ module _ (content : ModuleContent) (func : Function) (ready : IsReadyForGroups c
         from.to ∙ ap (λ (result : Option (List ℕ)). if is_some result then Some (number_at func (text_place func b k)) else None) unnamed,
       )
 
-  insts_at : (b : ℕ) (block : BasicBlock) → slice_get func.blocks b ≡ Some block → phi_count (lines_at func b) ≡ begins_with_phi block.insts
+  insts_at : (b : ℕ) (block : BasicBlock) → slice_get func.blocks b ≡ Some block → phi_count (lines_at func b) ≡ phis_of block.insts
   insts_at b block found =
       ap (λ (here : Option BasicBlock). phi_count (plain_lines (slice_index (registers_of func) b) (option_map_or (λ block. block.insts) here []))) found
       ∙ phi_count_is (slice_index (registers_of func) b) block.insts

@@ -3,9 +3,9 @@ use Rattle.std.proofs.Common.{◌≡◌, ℕ, zero, suc, ◌+◌, ◌≤◌, Boo
 use Rattle.std.specs.Prelude.{Option, Some, None, slice_get}
 use Rattle.std.specs.List.{Contains, filter_map}
 use Rattle.std.specs.Option.{option_map_or}
-use Rattle.std.proofs.lemmas.Bool.{and_parts, cases_lt, or_cases, or_right, eq-eqb, true≢false}
+use Rattle.std.proofs.lemmas.Bool.{and_parts, cases_lt, or_cases, or_right, eq-eqb, true≢false, not-true}
 use Rattle.std.proofs.lemmas.Option.{slice_get_within}
-use Rattle.list_laws.proofs.Places.{filter_map_back, get_map, map_back}
+use Rattle.list_laws.proofs.Places.{filter_map_back, get_map, map_back, get_joined}
 use Rattle.list_laws.proofs.Contents.{contains_get, contains_one, get_contained}
 use Rattle.sp_ids.specs.declared.ids.BlockId.{BlockId}
 use Rattle.sp_ids.specs.declared.ids.ValueId.{ValueId}
@@ -32,7 +32,7 @@ use Rattle.rewriting_forms.specs.Rewritten.{Piece, entries, group, joined_at, ph
 use Rattle.rewriting_laws.specs.Laws.{Edge, Fits, IsNumbering}
 use Rattle.rewriting_laws.proofs.JumpLemmas.{one_piece}
 use Rattle.rewriting_laws.proofs.LiveExact.{any_found, live_complete, live_sound, use_is}
-use Rattle.rewriting_laws.proofs.LiveLaws.{any_at, table_closed}
+use Rattle.rewriting_laws.proofs.LiveLaws.{table_closed}
 use Rattle.rewriting_laws.proofs.NameLemmas.{among_filter, call_or_not, is_none, is_one, line_is}
 use Rattle.base_definite.proofs.MeetLaws.{meets_or_not}
 use Rattle.base_definite.specs.Paths.{HasDefiniteBases}
@@ -40,10 +40,11 @@ use Rattle.base_definite.proofs.base_paths.UndefinedLaws.{Undefined, behind_edge
 use Rattle.rewritten_sound.specs.LeadsOut.{PhisAreBare}
 use Rattle.rewritten_sound.proofs.definite.LineLaws.{gives_defines, line_from, lines_length}
 use Rattle.rewritten_sound.proofs.definite.EdgeLaws.{edge_from}
-use Rattle.rewritten_sound.proofs.definite.PieceLaws.{PieceFrom, call_pieces, from_join, from_line, offset, piece_at, piece_from, pieces_for, split_place}
+use Rattle.rewritten_sound.proofs.definite.PieceLaws.{PieceFrom, call_pieces, from_join, from_line, offset, piece_at, piece_from, pieces_for}
 use Rattle.rewritten_sound.proofs.definite.NowLaws.{block_now, now, number, pieces, text}
 use Rattle.rewritten_sound.proofs.definite.CleanLaws.{Came, Clean, came_to, clean_end, clean_there}
 use Rattle.rewritten_sound.proofs.definite.UsedLaws.{edge_block, edge_contains, held_used, in_table, live_defined, phi_edge, phis_agree, use_undefined, uses_entry, uses_operand}
+use Rattle.std.proofs.lemmas.Map.Keys.{any_passes_from_place}
 
 -- ---- what renamed operands use
 
@@ -69,7 +70,7 @@ renamed_used : (to : Name → ℕ) (names : Names) (given : List Operand) (bundl
 renamed_used to names given bundle m within =
     let place = get_contained (filter_map value_in all) m within in
     let from = filter_map_back value_in all m place.0 place.1 in
-    elim (split_place (map (renamed to names) given) (map entry_operand (map again bundle)) from.place from.item from.stands) [
+    elim (get_joined (map (renamed to names) given) (map entry_operand (map again bundle)) from.place from.item from.stands) [
       | inl first ↦
           let before = map_back (renamed to names) given from.place from.item first in
           let value = renamed_value to names before.before m (ap value_in (sym before.is) ∙ from.gives) in
@@ -92,10 +93,6 @@ only_one : {A : Type 0} (x y : A) (i : ℕ) → slice_get (x ∷ []) i ≡ Some 
 only_one x y zero is = cc
 only_one x y (suc i) is = absurd cc
 
-not_true : (t : Bool) → not t ≡ true → t ≡ false
-not_true true is = absurd cc
-not_true false is = refl
-
 module _ (func : Function) (table : List Operand) (naming : Naming) where
   abbrev to : Name → ℕ
   to = number func table naming
@@ -117,13 +114,13 @@ module _ (func : Function) (table : List Operand) (naming : Naming) where
   no_null false place u is = cc
 
   entries_named : (b k place u : ℕ) → slice_get (entries func table b k) place ≡ Some (named u) → among u (live_list func table b k) ≡ true
-  entries_named b k place u at = elim (split_place _ (map (λ (v : ℕ). named v) (live_list func table b k)) place (named u) at) [
+  entries_named b k place u at = elim (get_joined _ (map (λ (v : ℕ). named v) (live_list func table b k)) place (named u) at) [
     | inl null ↦ absurd (no_null _ place u null)
     | inr there ↦
         let before = map_back (λ (v : ℕ). named v) (live_list func table b k) there.0 (named u) there.2 in
         let both : Some u ≡ Some before.before = ap value_in before.is in
         let same : before.before ≡ u = cc in
-        any_at (λ (x : ℕ). eqb x u) (live_list func table b k) there.0 before.before before.stands (eq-eqb before.before u same)
+        any_passes_from_place (λ (x : ℕ). eqb x u) (live_list func table b k) there.0 before.before before.stands (eq-eqb before.before u same)
   ]
 
   -- a member of a group uses its token alone
@@ -138,7 +135,7 @@ module _ (func : Function) (table : List Operand) (naming : Naming) where
 
   member_of : (b k : ℕ) (line : Line) (i : ℕ) (piece : Piece) → slice_get (group func table naming to b k line) i ≡ Some piece → IsMember b k piece
   member_of b k line i piece at =
-      elim (split_place (result_of func table naming to b k line line.to) (map (relocate_of func table naming to b k) (live_list func table b k)) i piece at) [
+      elim (get_joined (result_of func table naming to b k line line.to) (map (relocate_of func table naming to b k) (live_list func table b k)) i piece at) [
         | inl result ↦ result_member b k line line.to i piece result
         | inr relocate ↦
             let before = map_back (relocate_of func table naming to b k) (live_list func table b k) relocate.0 piece relocate.2 in
@@ -191,7 +188,7 @@ module _ (func : Function) (table : List Operand) (naming : Naming) where
         let parts = among_filter (λ (v : ℕ). is_live_after func table b k v && not (gives (line_at func b k) v)) u (pointers func) listed in
         let both = and_parts (is_live_after func table b k u) (not (gives (line_at func b k) u)) parts.1 in
         let line_same = line_is func b k line stands in
-        let kept : gives line u ≡ false = ap (λ (l : Line). gives l u) (sym line_same) ∙ not_true (gives (line_at func b k) u) both.1 in
+        let kept : gives line u ≡ false = ap (λ (l : Line). gives l u) (sym line_same) ∙ not-true (gives (line_at func b k) u) both.1 in
         let alive = (table_closed func table).later b k u line stands kept (or_right (not (among u (pointers func))) (is_live_after func table b k u) both.0) in
         let undefined = undefined_live b k u clean alive is in
         elim (or_cases (any_held func table u (line_at func b k).inst) (is_live func table b (suc k) u) both.0) [
@@ -225,7 +222,7 @@ module _ (func : Function) (table : List Operand) (naming : Naming) where
       where
         by : (u : ℕ) → to (names_here b k u) ≡ m → StandsIn (line.inst.operands ++ entries func table b k) (map entry_operand line.inst.bundle) u → ⊥
         by u is (inr place) = no_line_use b k u line stands (ap is_phi op) clean (inr place) is
-        by u is (inl place) = elim (split_place line.inst.operands (entries func table b k) place.0 (named u) place.1) [
+        by u is (inl place) = elim (get_joined line.inst.operands (entries func table b k) place.0 (named u) place.1) [
           | inl own_operand ↦ no_line_use b k u line stands (ap is_phi op) clean (inl (place.0, own_operand)) is
           | inr there ↦ no_listed b k u line stands clean (entries_named b k there.0 u there.2) is
         ]
@@ -289,7 +286,7 @@ module _ (func : Function) (table : List Operand) (naming : Naming) where
         let same : operand ≡ named (to (names_at_end func table naming label.0 v)) = cc in
         let value : Some (to (names_at_end func table naming label.0 v)) ≡ Some m = ap value_in (sym same) ∙ value_at in
         let is : to (names_at_end func table naming label.0 v) ≡ m = cc in
-        let edge : Edge func label.0 b = any_at (λ (x : ℕ). eqb x label.0) (preds func b) e label.0 pred (eq-eqb label.0 label.0 refl) in
+        let edge : Edge func label.0 b = any_passes_from_place (λ (x : ℕ). eqb x label.0) (preds func b) e label.0 pred (eq-eqb label.0 label.0 refl) in
         let at = fits.at_join b v joins in
         let undefined = undefined_live label.0 (length (lines_at func label.0)) v clean ((table_closed func table).crosses label.0 b v edge at.2) is in
         let own_edge = edge_from func label.0 b edge in
@@ -333,7 +330,7 @@ module _ (func : Function) (table : List Operand) (naming : Naming) where
       where
         by : (piece : Piece) → PieceFrom func table naming to b j piece → is_phi piece.inst.op ≡ true → slice_get piece.inst.labels e ≡ Some label → slice_get piece.inst.operands e ≡ Some operand → ⊥
         by piece (from_join v at is) one labels given =
-            let parts = among_filter (naming.joins b) v (pointers func) (any_at (λ (x : ℕ). eqb x v) (joined_at func naming b) j v at (eq-eqb v v refl)) in
+            let parts = among_filter (naming.joins b) v (pointers func) (any_passes_from_place (λ (x : ℕ). eqb x v) (joined_at func naming b) j v at (eq-eqb v v refl)) in
             join_use b v e label operand parts.1 (ap (λ (p : Piece). slice_get p.inst.labels e) (sym is) ∙ labels) (ap (λ (p : Piece). slice_get p.inst.operands e) (sym is) ∙ given) value_at clean
         by piece (from_line k i line stands place at) one labels given = elim (call_or_not line.inst.op) [
           | is_none other ↦

@@ -16,6 +16,7 @@ use Rattle.rewriting_forms.specs.Numbered.{gives, is_given, lines_at}
 use Rattle.base_laws.proofs.BlockLaws.{after_append, after_is}
 use Rattle.base_laws.proofs.PlacedLaws.{has_result}
 use Rattle.base_definite.proofs.CutLaws.{number_cut}
+use Rattle.object_meaning.proofs.LineLaws.{plain_count}
 
 -- ---- one list of instructions
 
@@ -35,10 +36,6 @@ plain_forth : (next : ℕ) (insts : List Instruction) (k : ℕ) (inst : Instruct
 plain_forth next [] k inst is = absurd cc
 plain_forth next (first ∷ insts) zero inst is = (numbered next first, refl, cc)
 plain_forth next (first ∷ insts) (suc k) inst is = plain_forth (following next first) insts k inst is
-
-pub plain_length : (next : ℕ) (insts : List Instruction) → length (plain_lines next insts) ≡ length insts
-plain_length next [] = refl
-plain_length next (inst ∷ insts) = ap suc (plain_length (following next inst) insts)
 
 -- the register of the first result of a block
 registers_at : (next : ℕ) (blocks : List BasicBlock) (b : ℕ) (block : BasicBlock) → slice_get blocks b ≡ Some block
@@ -90,7 +87,7 @@ module _ (func : Function) where
       (one.0, ap (λ (lines : List Line). slice_get lines k) (lines_as b stands.block stands.in_function) ∙ one.1, one.2)
 
   pub lines_length : (b : ℕ) (block : BasicBlock) → slice_get func.blocks b ≡ Some block → length (lines_at func b) ≡ length block.insts
-  lines_length b block found = ap length (lines_as b block found) ∙ plain_length (slice_index (registers_of func) b) block.insts
+  lines_length b block found = ap length (lines_as b block found) ∙ plain_count (slice_index (registers_of func) b) block.insts
 
   pub defines_given : (v b k : ℕ) → Defines func v b k → (line : Line) × (slice_get (lines_at func b) k ≡ Some line) × (line.to ≡ Some v)
   defines_given v b k defines =

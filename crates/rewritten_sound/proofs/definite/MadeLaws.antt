@@ -16,7 +16,7 @@ use Rattle.ir_ast.specs.Derived.{is_merge}
 use Rattle.ir_ast.specs.Insts.{Instruction}
 use Rattle.ir_ast.specs.Blocks.{BasicBlock}
 use Rattle.ir_ast.specs.Edges.{count_of, edges, targets}
-use Rattle.ir_ast.specs.Funcs.{Function, instructions_of}
+use Rattle.ir_ast.specs.Funcs.{Function, instructions_of, phis_of}
 use Rattle.ir_ast.specs.Lines.{IsLine, LineOf}
 use Rattle.ir_ast.specs.Faults.PhiEdges.{PhisAreRight, is_phi}
 use Rattle.ir_cfg.specs.DefiniteUses.{Stands}
@@ -31,7 +31,7 @@ use Rattle.base_forms.specs.Bases.{base_of}
 use Rattle.base_forms.specs.Inserted.{renumbered}
 use Rattle.base_forms.specs.Lines.{merged_bases}
 use Rattle.base_forms.specs.Based.{base_line, based, based_blocks, based_insts, insertion, kept_line, lines_for}
-use Rattle.base_laws.specs.BeforeLiveness.{PhisStandFirst, begins_with_phi}
+use Rattle.base_laws.specs.BeforeLiveness.{PhisStandFirst}
 use Rattle.base_laws.proofs.FormLaws.{all_based, each_line}
 use Rattle.base_laws.proofs.PlacedLaws.{all_placed, block_placed}
 use Rattle.rewritten_sound.specs.LeadsOut.{HasLabels, LeadsOut, PhisAreBare}
@@ -198,8 +198,8 @@ phis_are_right func phis lines graph first number block before after phi found w
     let here : slice_get block.insts (length before) ≡ Some phi = ap (λ (insts : List Instruction). slice_get insts (length before)) whole ∙ get_middle before phi after in
     let right = right_phis func phis lines number (length before) phi (record { block = block; in_function = found; in_block = here }) one in
     let stands_first = all_at (λ (each : BasicBlock). PhisStandFirst each.insts) (based (placed func)).blocks number block first found in
-    let below : length before < begins_with_phi block.insts = stands_first (length before) phi here one in
-    let there : length before < begins_with_phi (before ++ phi ∷ after) = subst (λ (insts : List Instruction). length before < begins_with_phi insts) whole below in
+    let below : length before < phis_of block.insts = stands_first (length before) phi here one in
+    let there : length before < phis_of (before ++ phi ∷ after) = subst (λ (insts : List Instruction). length before < phis_of insts) whole below in
     record {
       first = front_passes (λ (inst : Instruction). is_phi inst.op) before (phi ∷ after) (omega arith);
       counted = λ from. right.counted from ∙ sym (edges_same func (based (placed func)) graph from number);

@@ -4,7 +4,7 @@ use Rattle.std.specs.Prelude.{Option, Some, None, slice_get}
 use Rattle.std.proofs.lemmas.Bool.{eqb-true}
 use Rattle.std.proofs.lemmas.List.{length-append, length-map}
 use Rattle.std.proofs.lemmas.Option.{slice_get_within}
-use Rattle.list_laws.proofs.Places.{get_front, get_map, get_past, get_some, map_back}
+use Rattle.list_laws.proofs.Places.{get_front, get_map, get_past, get_some, map_back, drop_whole, get_joined}
 use Rattle.ir_ast.specs.declared.types.Ty.{Ty}
 use Rattle.ir_ast.specs.declared.ops.Callee.{Callee}
 use Rattle.ir_ast.specs.declared.ops.Op.TheVariants.{Call, GcResult}
@@ -17,18 +17,8 @@ use Rattle.rewriting_forms.specs.Liveness.{live_list}
 use Rattle.rewriting_forms.specs.Names.{Name, Naming, own, token}
 use Rattle.rewriting_forms.specs.Rewritten.{Piece, expanded, expanded_by, group, inserted_phi, joined_at, pieces_of, plain, relocate_of, result_of, statepoint}
 use Rattle.rewriting_laws.proofs.LiveExact.{any_found}
-use Rattle.rewriting_laws.proofs.LiveLaws.{drop_all, drop_from}
+use Rattle.rewriting_laws.proofs.LiveLaws.{drop_from}
 use Rattle.rewriting_laws.proofs.NameLemmas.{at_rest, line_is}
-
--- a place of joined lists is one of the first or one of the second
-pub split_place : {A : Type 0} (xs ys : List A) (i : ℕ) (x : A) → slice_get (xs ++ ys) i ≡ Some x
-    → (slice_get xs i ≡ Some x) ⊎ ((j : ℕ) × (length xs + j ≡ i) × (slice_get ys j ≡ Some x))
-split_place [] ys i x is = inr (i, omega arith, is)
-split_place (z ∷ xs) ys zero x is = inl is
-split_place (z ∷ xs) ys (suc i) x is = elim (split_place xs ys i x is) [
-  | inl front ↦ inl front
-  | inr back ↦ let e = back.1 in inr (back.0, omega arith, back.2)
-]
 
 -- a value stands at a place of a list
 pub among_at : (v : ℕ) (xs : List ℕ) → among v xs ≡ true → (i : ℕ) × (slice_get xs i ≡ Some v)
@@ -102,7 +92,7 @@ module _ (func : Function) (table : List Operand) (naming : Naming) (number : Na
   pub whole_length : (b : ℕ) → length (pieces_of func table naming number b) ≡ offset b (length (lines_at func b))
   whole_length b =
       let all = cut b (length (lines_at func b)) (omega arith) in
-      ap length (all.whole ∙ (ap (λ (lines : List Line). all.front ++ expanded func table naming number b (length (lines_at func b)) lines) (drop_all (lines_at func b)) ∙ append-nil all.front)) ∙ all.long
+      ap length (all.whole ∙ (ap (λ (lines : List Line). all.front ++ expanded func table naming number b (length (lines_at func b)) lines) (drop_whole (lines_at func b)) ∙ append-nil all.front)) ∙ all.long
 
   pub piece_at : (b k i : ℕ) (line : Line) (piece : Piece) → slice_get (lines_at func b) k ≡ Some line → slice_get (pieces_for b k line) i ≡ Some piece
       → slice_get (pieces_of func table naming number b) (offset b k + i) ≡ Some piece
@@ -121,7 +111,7 @@ module _ (func : Function) (table : List Operand) (naming : Naming) (number : Na
 
   pub piece_from : (b j : ℕ) (piece : Piece) → slice_get (pieces_of func table naming number b) j ≡ Some piece → PieceFrom b j piece
   piece_from b j piece at =
-      elim (split_place (map (inserted_phi func table naming number b) (joined_at func naming b)) (expanded func table naming number b 0 (lines_at func b)) j piece at) [
+      elim (get_joined (map (inserted_phi func table naming number b) (joined_at func naming b)) (expanded func table naming number b 0 (lines_at func b)) j piece at) [
         | inl here ↦
             let from = map_back (inserted_phi func table naming number b) (joined_at func naming b) j piece here in
             from_join from.before from.stands from.is
@@ -135,7 +125,7 @@ module _ (func : Function) (table : List Operand) (naming : Naming) (number : Na
       go k [] place i is at_place = absurd cc
       go k (line ∷ lines) place i is at_place =
           let here = at_rest (lines_at func b) k line lines place in
-          elim (split_place (pieces_for b k line) (expanded func table naming number b (suc k) lines) i piece is) [
+          elim (get_joined (pieces_for b k line) (expanded func table naming number b (suc k) lines) i piece is) [
             | inl one ↦ from_line k i line here.0 at_place one
             | inr more ↦
                 let e = more.1 in

@@ -33,7 +33,6 @@ use Rattle.object_meaning.specs.Frames.{is_member}
 use Rattle.object_meaning.specs.Lines.{Line}
 use Rattle.rewriting_forms.specs.Numbered.{among, base_at, gives, is_given, lines_at, named, pointers}
 use Rattle.rewriting_laws.specs.Laws.{IsPlain}
-use Rattle.rewriting_laws.proofs.NameLemmas.{given_is}
 use Rattle.base_laws.proofs.TypeLaws.{type_of_given}
 use Rattle.base_definite.specs.Paths.{HasDefiniteBases}
 use Rattle.base_definite.proofs.base_paths.GivesLaws.{given_named}
@@ -47,6 +46,7 @@ use Rattle.rewritten_sound.proofs.pairs.BaseFacts.{fits_pointer, pointer_is, ste
 use Rattle.rewritten_sound.proofs.pairs.EdgeFacts.{operand_there}
 use Rattle.rewritten_sound.proofs.pairs.PhiFacts.{Shape, base_same, entry_of, gives_here, is_merged, is_own, is_stepped, merged_line, shape}
 use Rattle.rewritten_sound.proofs.pairs.StayFacts.{numbered, others}
+use Rattle.object_meaning.proofs.LineLaws.{given_is}
 
 -- the operands of a select
 select_fits : (values : List Ty) (given : List Operand) (ty : Ty) → AllZip (Fits values) given (types.Int 1 ∷ ty ∷ ty ∷ [])

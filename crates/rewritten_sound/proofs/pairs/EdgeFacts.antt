@@ -7,7 +7,7 @@ use Rattle.std.proofs.lemmas.Bool.{cases_Bool, cases_eq, eqb-true, eq-eqb, ne_eq
 use Rattle.std.proofs.lemmas.List.{map-append, take-append-drop}
 use Rattle.std.proofs.lemmas.List.Quantifiers.{position-Some}
 use Rattle.std.proofs.lemmas.Option.{slice_get-get_or, slice_get_within}
-use Rattle.list_laws.proofs.Places.{get_front, get_map, get_taken}
+use Rattle.list_laws.proofs.Places.{get_front, get_map, get_taken, take_front_of}
 use Rattle.sp_ids.specs.declared.ids.BlockId.{BlockId}
 use Rattle.ir_ast.specs.declared.ops.Operand.{Operand}
 use Rattle.ir_ast.specs.declared.ops.Operand.TheVariants.{Null}
@@ -28,54 +28,18 @@ use Rattle.rewriting_forms.specs.Liveness as liveness
 use Rattle.rewriting_forms.specs.Names.{Name, Naming, joined, names_at, names_at_end, own}
 use Rattle.rewriting_forms.specs.Rewritten.{Piece, expanded, inserted_phi, joined_at, phi_operands, plain, renamed, renamed_inst}
 use Rattle.rewriting_laws.specs.Laws.{Edge, Fits, IsNumbering, IsPlain}
-use Rattle.rewriting_laws.proofs.JumpLemmas.{lines_split, one_piece, phi_lines, phi_pieces, phis_count}
+use Rattle.rewriting_laws.proofs.JumpLemmas.{lines_split, one_piece, phi_lines, phi_pieces, phis_count, label_get, prefix_within}
 use Rattle.rewriting_laws.proofs.LiveLaws.{table_closed}
-use Rattle.rewriting_laws.proofs.NameLemmas.{among_cons, among_filter, among_here, among_there, at_rest, filter_among, found, given_is, names_given, names_kept, names_owner, number_apart}
+use Rattle.rewriting_laws.proofs.NameLemmas.{among_cons, among_filter, among_here, among_there, at_rest, filter_among, found, names_given, names_kept, names_owner, number_apart}
 use Rattle.rewritten_sound.proofs.definite.NowLaws.{defines_piece, now, number, pieces}
 use Rattle.rewritten_sound.proofs.definite.PieceLaws.{among_at, piece_at}
 use Rattle.pair_facts.specs.Lines.{operand_at, phis_in}
 use Rattle.pair_facts.specs.Pairs.{along, incoming, value_along}
 use Rattle.rewritten_sound.proofs.pairs.NowPlaces.{lines, start_of, whole_rewriting, written}
+use Rattle.object_meaning.proofs.LineLaws.{given_is}
+use Rattle.list_laws.proofs.Tests.{prefix_passes, position_passes}
 
 -- ---- lists
-
-take_front : {A : Type 0} (xs ys : List A) → take (length xs) (xs ++ ys) ≡ xs
-take_front [] ys = refl
-take_front (x ∷ xs) ys = ap (λ zs. x ∷ zs) (take_front xs ys)
-
-pub prefix_all : {A : Type 0} (p : A → Bool) (xs : List A) (k : ℕ) (x : A) → slice_get (take (prefix_len p xs) xs) k ≡ Some x → p x ≡ true
-prefix_all p [] k x is = absurd (cc)
-prefix_all p (y ∷ xs) k x is = elim (cases_Bool (p y)) [
-  | inr other ↦ absurd (let h = rw other at is in cc)
-  | inl here ↦ go k (let e : 1 + prefix_len p xs ≡ suc (prefix_len p xs) = omega arith in let h1 = rw here at is in let h = rw e at h1 in h) here (λ j. prefix_all p xs j x)
-]
-  where
-    go : (k : ℕ) → slice_get (y ∷ take (prefix_len p xs) xs) k ≡ Some x → p y ≡ true → ((j : ℕ) → slice_get (take (prefix_len p xs) xs) j ≡ Some x → p x ≡ true) → p x ≡ true
-    go zero is here rest = let e : y ≡ x = cc in ap p (sym e) ∙ here
-    go (suc k) is here rest = rest k is
-
-pub prefix_within : {A : Type 0} (p : A → Bool) (xs : List A) → length (take (prefix_len p xs) xs) ≡ prefix_len p xs
-prefix_within p [] = refl
-prefix_within p (y ∷ xs) = elim (cases_Bool (p y)) [
-  | inr other ↦ rw other refl
-  | inl here ↦
-      let e : 1 + prefix_len p xs ≡ suc (prefix_len p xs) = omega arith in
-      rw (here, e) (ap suc (prefix_within p xs))
-]
-
-label_get : (labels : List BlockId) (from : ℕ) → among from (map (λ (l : BlockId). l.0) labels) ≡ true
-    → (k : ℕ) × (label : BlockId) × (slice_get labels k ≡ Some label) × (eqb label.0 from ≡ true)
-label_get [] from is = absurd (false≢true is)
-label_get (l ∷ labels) from is = elim (cases_Bool (eqb l.0 from)) [
-  | inl here ↦ (0, l, refl, here)
-  | inr other ↦ let rest = label_get labels from (let h = rw other at is in h) in (suc rest.0, rest.1, rest.2, rest.3)
-]
-
-position_get : {A : Type 0} (p : A → Bool) (xs : List A) (i : ℕ) → position p xs ≡ Some i → (x : A) × (slice_get xs i ≡ Some x) × (p x ≡ true)
-position_get p [] i is = absurd (cc)
-position_get p (y ∷ xs) i is =
-    let parts = position-Some p (y ∷ xs) i y is in
-    (get_or (y ∷ xs) i y, slice_get-get_or (y ∷ xs) i y parts.0, parts.1)
 
 pub operand_there : (operands : List Operand) (place v : ℕ) → operand_at operands place ≡ named v → slice_get operands place ≡ Some (named v)
 operand_there [] place v is = absurd cc
@@ -159,7 +123,7 @@ module _ (func : Function) (table : List Operand) (naming : Naming) (fits : Fits
           ap (λ (p : Option ℕ). option_map_or (λ (e : ℕ). operand_at (renamed_inst func table naming numbered b k phi.inst).operands e) p Null) none
           ∙ sym (ap (λ (p : Option ℕ). renamed numbered (names_at_end func table naming from) (option_map_or (λ (e : ℕ). operand_at phi.inst.operands e) p Null)) none)
       go (Some i) at =
-          let label = position_get (λ (l : BlockId). eqb l.0 from) phi.inst.labels i at in
+          let label = position_passes (λ (l : BlockId). eqb l.0 from) phi.inst.labels i at in
           let block = eqb-true (label.0).0 from label.2 in
           ap (λ (p : Option ℕ). option_map_or (λ (e : ℕ). operand_at (renamed_inst func table naming numbered b k phi.inst).operands e) p Null) at
           ∙ ap (λ (os : List Operand). operand_at os i) operands_are
@@ -272,7 +236,7 @@ module _ (func : Function) (table : List Operand) (naming : Naming) (fits : Fits
     place_phis = sym (take-append-drop (phi_count (lines_at func b)) (lines_at func b))
 
     all_phis : (k : ℕ) (x : Line) → slice_get phis k ≡ Some x → is_phi x.inst.op ≡ true
-    all_phis k x is = prefix_all (λ (line : Line). is_phi line.inst.op) (lines_at func b) k x is
+    all_phis k x is = prefix_passes (λ (line : Line). is_phi line.inst.op) (lines_at func b) k x is
 
     count_is : 0 + length phis ≡ front
     count_is = let h = prefix_within (λ (line : Line). is_phi line.inst.op) (lines_at func b) in omega (arith, h)
@@ -291,7 +255,7 @@ module _ (func : Function) (table : List Operand) (naming : Naming) (fits : Fits
         let count = phis_count (whole_rewriting func table naming room plain_form) room plain_form b in
         ap (λ (n : ℕ). take n (lines func table naming b)) count
         ∙ ap (take (length (phi_lines (whole_rewriting func table naming room plain_form) room plain_form b))) split
-        ∙ take_front (phi_lines (whole_rewriting func table naming room plain_form) room plain_form b) _
+        ∙ take_front_of (phi_lines (whole_rewriting func table naming room plain_form) room plain_form b) _
         ∙ map-append (written func table naming) (map (inserted_phi func table naming numbered b) (joined_at func naming b)) (phi_pieces func table naming numbered b 0 phis)
 
     along_now : (m : ℕ) → along from (phis_in (lines func table naming b)) (named m) ≡ value_along from (inserted b (joined_at func naming b) ++ phis_written b 0 phis) m

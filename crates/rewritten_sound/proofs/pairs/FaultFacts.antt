@@ -31,7 +31,7 @@ use Rattle.rewriting_forms.specs.Names.{Name, Names, Naming, names_at}
 use Rattle.rewriting_forms.specs.Rewritten.{Piece, entries, group, index_of, inserted_phi, plain, relocate_of, renamed, statepoint}
 use Rattle.rewriting_forms.specs.Rewritten as forms
 use Rattle.rewriting_laws.specs.Laws.{Fits, IsNumbering, IsPlain}
-use Rattle.rewriting_laws.proofs.LiveLaws.{any_at, table_closed}
+use Rattle.rewriting_laws.proofs.LiveLaws.{table_closed}
 use Rattle.rewriting_laws.proofs.NameLemmas.{line_is, names_owner}
 use Rattle.rewritten_sound.proofs.definite.NowLaws.{number}
 use Rattle.pair_facts.specs.Faults.{IsLostValue, IsOpenGroup, IsPlainCall, IsUnchecked}
@@ -43,9 +43,11 @@ use Rattle.rewritten_sound.specs.Takes.{HasPairs, IsBased, IsOwn}
 use Rattle.rewritten_sound.proofs.pairs.GroupFacts.{entries_now, entries_stand, entry_of, index_place, listed, relocate_there, relocated_has}
 use Rattle.rewritten_sound.proofs.pairs.HoldFacts.{Holds, IsAlive, Stands, alive_from, based_stands, operand_map, same_again}
 use Rattle.rewritten_sound.proofs.pairs.LineFacts.{kept_operand}
-use Rattle.rewritten_sound.proofs.pairs.NowPlaces.{MemberOf, comes_from, from_call, from_inserted, from_member, from_plain, group_now, head_now, in_place, is_relocate as member_relocate, is_result, lines, member_head, member_of, plain_next, plain_now, start_of, written}
+use Rattle.rewritten_sound.proofs.pairs.NowPlaces.{MemberOf, comes_from, from_call, from_inserted, from_member, from_plain, group_now, head_now, is_relocate as member_relocate, is_result, lines, member_head, member_of, plain_next, plain_now, start_of, written}
 use Rattle.rewritten_sound.proofs.pairs.PathFacts.{holds_there}
 use Rattle.rewritten_sound.proofs.pairs.UseFacts.{StandsIn, accessed_back, checked_back, checks_forth, checks_from, compared_back, escaped_back, escaped_call, no_checks, no_compares}
+use Rattle.std.proofs.lemmas.Map.Keys.{any_passes_from_place}
+use Rattle.object_meaning.proofs.LineLaws.{line_is as in_place}
 
 -- ---- phis use no pairs
 
@@ -267,7 +269,7 @@ module _ (func : Function) (table : List Operand) (naming : Naming) (fits : Fits
       let held = has.held b k value.0 line entry stands contained pointer is in
       let place = get_contained line.inst.bundle entry contained in
       let used : is_use func table value.0 entry.1 ≡ true = ap (is_use func table value.0) is ∙ or_left (eqb value.0 value.0) _ (eq-eqb value.0 value.0 refl) in
-      let holds : any_held func table value.0 line.inst ≡ true = any_at (λ (e : Ty × Operand). is_use func table value.0 e.1) line.inst.bundle place.0 entry place.1 used in
+      let holds : any_held func table value.0 line.inst ≡ true = any_passes_from_place (λ (e : Ty × Operand). is_use func table value.0 e.1) line.inst.bundle place.0 entry place.1 used in
       let after : is_live_after func table b k value.0 ≡ true =
       or_left (any_held func table value.0 (line_at func b k).inst) (is_live func table b (suc k) value.0) (ap (λ (l : Line). any_held func table value.0 l.inst) (line_is func b k line stands) ∙ holds) in
       let in_list = listed func table naming fits room plain_form has b k line callee types stands op no_leaf value.0 held.0
@@ -280,7 +282,7 @@ module _ (func : Function) (table : List Operand) (naming : Naming) (fits : Fits
       ∙ position_same (renamed to (names k)) (λ (e : Operand). same_operand e (named (to (names k value.0)))) (λ (e : Operand). forms.same_operand e (named value.0)) (entries func table b k) (same_entry k value.0)
       ∙ entry_there.1 in
       ap (λ (p : Option ℕ). option_map_or (λ (place : ℕ). list_any (λ (l : Line). is_relocate l.inst.op && eqb (derived_index l) place) (map (written func table naming) (group func table naming to b k line))) p false) found
-      ∙ any_at (λ (l : Line). is_relocate l.inst.op && eqb (derived_index l) entry_there.0) (map (written func table naming) (group func table naming to b k line)) relocate.0
+      ∙ any_passes_from_place (λ (l : Line). is_relocate l.inst.op && eqb (derived_index l) entry_there.0) (map (written func table naming) (group func table naming to b k line)) relocate.0
       (written func table naming (relocate_of func table naming to b k value.0)) relocate.1 (eq-eqb (index_of func table b k (named value.0)) entry_there.0 index)
 
   pub no_lost_value : (j : ℕ) → IsLostValue now_lines j → ⊥

@@ -3,10 +3,10 @@ use Rattle.std.proofs.Common.{◌≡◌, ℕ, suc, Bool, true, false, not, eqb, 
 use Rattle.std.specs.Prelude.{Option, Some, slice_get}
 use Rattle.std.specs.List.{list_any, position}
 use Rattle.std.specs.Option.{option_map_or}
-use Rattle.std.proofs.lemmas.Bool.{and_from, and_parts, cases_Bool, eq-eqb, eqb-true, false≢true, or_left, or_right, not_from_false}
+use Rattle.std.proofs.lemmas.Bool.{and_from, and_parts, cases_Bool, eq-eqb, eqb-true, false≢true, or_left, or_right, not_from_false, not-true}
 use Rattle.std.proofs.lemmas.List.{length-map}
 use Rattle.std.proofs.lemmas.Option.{get_or_from_slice_get}
-use Rattle.list_laws.proofs.Places.{get_map, get_past}
+use Rattle.list_laws.proofs.Places.{get_map, get_past, map_append}
 use Rattle.ir_ast.specs.declared.ops.Callee.{Callee}
 use Rattle.ir_ast.specs.declared.ops.Op.{Op}
 use Rattle.ir_ast.specs.declared.ops.Op.TheVariants.{Call}
@@ -25,8 +25,8 @@ use Rattle.rewriting_forms.specs.Names.{Name, Naming, names_at, own, relocated}
 use Rattle.rewriting_forms.specs.Rewritten.{Piece, entries, group, index_of, relocate_of, renamed, result_of, statepoint}
 use Rattle.rewriting_forms.specs.Rewritten as forms
 use Rattle.rewriting_laws.specs.Laws.{Fits, IsPlain}
-use Rattle.rewriting_laws.proofs.LiveLaws.{any_at, table_closed}
-use Rattle.rewriting_laws.proofs.NameLemmas.{among_filter, filter_among, found, given_is, line_is, names_given, names_listed}
+use Rattle.rewriting_laws.proofs.LiveLaws.{table_closed}
+use Rattle.rewriting_laws.proofs.NameLemmas.{among_filter, filter_among, found, line_is, names_given, names_listed}
 use Rattle.rewritten_sound.proofs.definite.NowLaws.{number}
 use Rattle.rewritten_sound.proofs.definite.PieceLaws.{among_at, relocate_at, result_at, result_piece}
 use Rattle.pair_facts.specs.declared.bases.Base.{Base}
@@ -36,10 +36,8 @@ use Rattle.pair_facts.specs.Pairs.{Pairs, after_group, has_base, member_pairs, o
 use Rattle.rewritten_sound.specs.Takes.{Derives, HasPairs, IsPointer, base_of}
 use Rattle.rewritten_sound.proofs.pairs.HoldFacts.{Holds, Stands, based_stands, operand_map}
 use Rattle.rewritten_sound.proofs.pairs.NowPlaces.{written}
-
-not_true : (t : Bool) → not t ≡ true → t ≡ false
-not_true true is = absurd (false≢true is)
-not_true false is = refl
+use Rattle.object_meaning.proofs.LineLaws.{given_is}
+use Rattle.std.proofs.lemmas.Map.Keys.{any_passes_from_place}
 
 operand_here : (operands : List Operand) (k : ℕ) (o : Operand) → slice_get operands k ≡ Some o → operand_at operands k ≡ o
 operand_here operands k o is = get_or_from_slice_get operands k o (Int 0) is
@@ -61,10 +59,6 @@ drop_length [] [] ys e = refl
 drop_length [] (x ∷ xs) ys e = absurd (omega arith)
 drop_length (type ∷ types) [] ys e = absurd (omega arith)
 drop_length (type ∷ types) (x ∷ xs) ys e = drop_length types xs ys (omega arith)
-
-map_joined : {A B : Type 0} (f : A → B) (xs ys : List A) → map f (xs ++ ys) ≡ map f xs ++ map f ys
-map_joined f [] ys = refl
-map_joined f (x ∷ xs) ys = ap (λ zs. f x ∷ zs) (map_joined f xs ys)
 
 module _ (func : Function) (table : List Operand) (naming : Naming) (fits : Fits func table naming (live_table func table)) (room : ℕ) (plain_form : IsPlain func room)
     (has : HasPairs func table (live_table func table)) (b k : ℕ) (line : Line) (callee : Callee) (types : List Ty)
@@ -95,7 +89,7 @@ module _ (func : Function) (table : List Operand) (naming : Naming) (fits : Fits
   entries_now =
       let count = plain_form.arguments b k line callee types stands op in
       let long = length-map line.inst.operands (renamed to (names_at func table naming b k)) in
-      ap (drop (length types)) (map_joined (renamed to (names_at func table naming b k)) line.inst.operands (entries func table b k))
+      ap (drop (length types)) (map_append (renamed to (names_at func table naming b k)) line.inst.operands (entries func table b k))
       ∙ drop_length types (map (renamed to (names_at func table naming b k)) line.inst.operands) (map (renamed to (names_at func table naming b k)) (entries func table b k)) (omega (arith, count, long))
 
   -- ---- what is listed
@@ -123,7 +117,7 @@ module _ (func : Function) (table : List Operand) (naming : Naming) (fits : Fits
       record {
         pointer = parts.0;
         alive = or_right (not (among v (pointers func))) (is_live_after func table b k v) both.0;
-        other = ap (λ (l : Line). gives l v) (sym (line_is func b k line stands)) ∙ not_true (gives (line_at func b k) v) both.1;
+        other = ap (λ (l : Line). gives l v) (sym (line_is func b k line stands)) ∙ not-true (gives (line_at func b k) v) both.1;
       }
 
   pub alive_before : (v : ℕ) → among v list ≡ true → live_table func table b k v ≡ true
@@ -167,7 +161,7 @@ module _ (func : Function) (table : List Operand) (naming : Naming) (fits : Fits
   pub null_at : (v : ℕ) → among v list ≡ true → base_at table v ≡ Null → operand_at (entries_of head.inst) (index_of func table b k Null) ≡ Null
   null_at v is base =
       let place = among_at v list is in
-      let any : list_any (λ (x : ℕ). forms.is_null (base_at table x)) list ≡ true = any_at (λ (x : ℕ). forms.is_null (base_at table x)) list place.0 v place.1 (ap forms.is_null base) in
+      let any : list_any (λ (x : ℕ). forms.is_null (base_at table x)) list ≡ true = any_passes_from_place (λ (x : ℕ). forms.is_null (base_at table x)) list place.0 v place.1 (ap forms.is_null base) in
       let first : slice_get (entries func table b k) 0 ≡ Some Null = ap (λ (t : Bool). slice_get ((if t then Null ∷ [] else []) ++ map (λ (x : ℕ). named x) list) 0) any in
       let found_first = found (λ (entry : Operand). forms.same_operand entry Null) (entries func table b k) 0 Null first refl in
       ap (λ (os : List Operand). operand_at os (index_of func table b k Null)) entries_now
@@ -215,9 +209,9 @@ module _ (func : Function) (table : List Operand) (naming : Naming) (fits : Fits
       let name = names_listed func table naming b k line value.0 stands from_w.other is_called in_list in
       let keeps = own_relocates value.0 alone in
       let keeps_here : has_base members (index_of func table b k (named value.0)) ≡ true =
-      any_at (relocates_base (index_of func table b k (named value.0))) members place.0 (relocate_line value.0) place.1 keeps in (
+      any_passes_from_place (relocates_base (index_of func table b k (named value.0))) members place.0 (relocate_line value.0) place.1 keeps in (
         or_left (has_base members (index_of func table b k (named value.0))) (is_null (operand_at (entries_of head.inst) (index_of func table b k (named value.0)))) keeps_here,
-        any_at (λ (l : Line). is_given l.to (to (names_at func table naming b (suc k) value.0)) && relocates_base (index_of func table b k (named value.0)) l) members place.0 (relocate_line value.0) place.1
+        any_passes_from_place (λ (l : Line). is_given l.to (to (names_at func table naming b (suc k) value.0)) && relocates_base (index_of func table b k (named value.0)) l) members place.0 (relocate_line value.0) place.1
             (and_from (eqb (to (relocated b k value.0)) (to (names_at func table naming b (suc k) value.0))) (relocates_base (index_of func table b k (named value.0)) (relocate_line value.0))
             (eq-eqb (to (relocated b k value.0)) (to (names_at func table naming b (suc k) value.0)) (ap to (sym name))) keeps),
         or_right (is_null (operand_at (entries_of head.inst) (index_of func table b k (named value.0)))) (has_base members (index_of func table b k (named value.0))) keeps_here,
@@ -243,7 +237,7 @@ module _ (func : Function) (table : List Operand) (naming : Naming) (fits : Fits
       → after_group (entries_of head.inst) members (named (to (relocated b k v))) base ≡ true
   relocate_pairs v base is pair =
       let place = relocate_there v is in
-      any_at (λ (l : Line). is_given l.to (to (relocated b k v)) && member_pairs (entries_of head.inst) members (to (relocated b k v)) l l.inst.op base) members place.0 (relocate_line v) place.1
+      any_passes_from_place (λ (l : Line). is_given l.to (to (relocated b k v)) && member_pairs (entries_of head.inst) members (to (relocated b k v)) l l.inst.op base) members place.0 (relocate_line v) place.1
       (and_from (eqb (to (relocated b k v)) (to (relocated b k v))) (relocated_pairs (entries_of head.inst) members (index_of func table b k (base_at table v)) base)
       (eq-eqb (to (relocated b k v)) (to (relocated b k v)) refl) pair)
 
@@ -251,7 +245,7 @@ module _ (func : Function) (table : List Operand) (naming : Naming) (fits : Fits
       → after_group (entries_of head.inst) members (named (to (own v))) base ≡ true
   result_pairs v base given type alone =
       let place = get_map (written func table naming) (group func table naming to b k line) 0 (result_piece func table naming to b k line v) (result_at func table naming to b k line v given) in
-      any_at (λ (l : Line). is_given l.to (to (own v)) && member_pairs (entries_of head.inst) members (to (own v)) l l.inst.op base) members 0
+      any_passes_from_place (λ (l : Line). is_given l.to (to (own v)) && member_pairs (entries_of head.inst) members (to (own v)) l l.inst.op base) members 0
       (written func table naming (result_piece func table naming to b k line v)) place
       (and_from (eqb (to (own v)) (to (own v))) (is_pointer line.inst.ty && own_pairs (to (own v)) base) (eq-eqb (to (own v)) (to (own v)) refl)
       (and_from (is_pointer line.inst.ty) (own_pairs (to (own v)) base) type alone))

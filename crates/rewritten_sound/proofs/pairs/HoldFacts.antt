@@ -26,6 +26,7 @@ use Rattle.pair_facts.specs.Pairs.{Pairs, is_named, is_pointer_argument}
 use Rattle.rewritten_sound.proofs.definite.NowLaws.{number}
 use Rattle.rewritten_sound.specs.Takes.{HasPairs, IsOwn, IsPointer, base_of}
 use Rattle.rewritten_sound.proofs.pairs.EdgeFacts.{operand_there}
+use Rattle.ir_ast.proofs.OpLaws.{same_is}
 
 -- a pointer with its base, which is its own
 pub record Stands (pairs : Pairs) (address base : Operand) : Type 0 where
@@ -57,22 +58,6 @@ operand_map to names (o ∷ operands) (suc place) = operand_map to names operand
 
 pub same_self : (v : ℕ) → same_operand (named v) (named v) ≡ true
 same_self v = eq-eqb v v refl
-
--- an operand that is the same as another one
-pub same_is : (o other : Operand) → same_operand o other ≡ true → o ≡ other
-same_is (Value value) (Value other) is = ap named (eqb-true value.0 other.0 is)
-same_is (Int word) (Int other) is = ap (λ w. Int w) (eqb-true word other is)
-same_is Null Null is = refl
-same_is (Value value) (Int other) is = absurd cc
-same_is (Value value) Null is = absurd cc
-same_is (Value value) (Fun other) is = absurd cc
-same_is (Int word) (Value other) is = absurd cc
-same_is (Int word) Null is = absurd cc
-same_is (Int word) (Fun other) is = absurd cc
-same_is Null (Value other) is = absurd cc
-same_is Null (Int other) is = absurd cc
-same_is Null (Fun other) is = absurd cc
-same_is (Fun called) other is = absurd cc
 
 -- and the other way round, but for functions
 pub same_again : (o other : Operand) → same_operand o other ≡ true → (to : Name → ℕ) (names : Names) → same_operand (renamed to names o) (renamed to names other) ≡ true

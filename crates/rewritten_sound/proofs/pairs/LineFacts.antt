@@ -19,7 +19,7 @@ use Rattle.rewriting_forms.specs.Names.{Name, Naming, names_at, own}
 use Rattle.rewriting_forms.specs.Rewritten.{plain, renamed}
 use Rattle.rewriting_laws.specs.Laws.{Fits, IsNumbering}
 use Rattle.rewriting_laws.proofs.LiveLaws.{table_closed}
-use Rattle.rewriting_laws.proofs.NameLemmas.{given_is, names_given, names_kept}
+use Rattle.rewriting_laws.proofs.NameLemmas.{names_given, names_kept}
 use Rattle.rewritten_sound.proofs.definite.NowLaws.{number}
 use Rattle.pair_facts.specs.declared.bases.Base.{Base}
 use Rattle.pair_facts.specs.declared.bases.Base.TheVariants.{Any, Named}
@@ -30,6 +30,7 @@ use Rattle.rewritten_sound.specs.Takes.{Derives, HasPairs, IsOwn, IsPointer, Mer
 use Rattle.rewritten_sound.proofs.pairs.EdgeFacts.{operand_there}
 use Rattle.rewritten_sound.proofs.pairs.HoldFacts.{Holds, IsAlive, alive_at, apart_operand, base_owns, operand_fresh, operand_map, operand_pair, same_again}
 use Rattle.rewritten_sound.proofs.pairs.NowPlaces.{lines, plain_now, plain_next, start_of, written}
+use Rattle.object_meaning.proofs.LineLaws.{given_is}
 
 without_keeps : (r : ℕ) (pairs : Pairs) (o : Operand) (base : Base) → is_named r o ≡ false → is_base_named r base ≡ false → without r pairs o base ≡ pairs o base
 without_keeps r pairs o base first second = rw (first, second) refl

@@ -6,7 +6,7 @@ use Rattle.std.proofs.lemmas.List.{length-append, length-map}
 use Rattle.std.proofs.lemmas.List.Sums.{prefix_len-le-length}
 use Rattle.std.proofs.lemmas.Option.{get_or_from_slice_get, slice_get_within}
 use Rattle.std.proofs.lemmas.Bool.{eq-eqb}
-use Rattle.list_laws.proofs.Places.{get_map, get_some, map_back}
+use Rattle.list_laws.proofs.Places.{get_map, get_some, map_back, get_joined}
 use Rattle.ir_ast.specs.declared.types.Ty.{Ty}
 use Rattle.ir_ast.specs.declared.ops.Callee.{Callee}
 use Rattle.ir_ast.specs.declared.ops.Op.TheVariants.{Call}
@@ -25,12 +25,15 @@ use Rattle.rewriting_forms.specs.Rewritten.{Piece, expanded, group, inserted_phi
 use Rattle.rewriting_laws.specs.Laws.{IsPlain}
 use Rattle.rewriting_laws.specs.Related.{Rewriting, piece_line}
 use Rattle.rewriting_laws.proofs.JumpLemmas.{lines_split, one_piece, phi_lines, phis_count}
-use Rattle.rewriting_laws.proofs.LiveLaws.{any_at, drop_from}
+use Rattle.rewriting_laws.proofs.LiveLaws.{drop_from}
 use Rattle.rewriting_laws.proofs.NameLemmas.{among_filter, at_rest, call_or_not, is_none, is_one}
 use Rattle.rewritten_sound.proofs.definite.NowLaws.{number, pieces, text}
-use Rattle.rewritten_sound.proofs.definite.PieceLaws.{PieceFrom, call_pieces, cut, for_line, from_join, from_line, offset, piece_at, piece_from, pieces_for, result_piece, split_place}
+use Rattle.rewritten_sound.proofs.definite.PieceLaws.{PieceFrom, call_pieces, cut, for_line, from_join, from_line, offset, piece_at, piece_from, pieces_for, result_piece}
 use Rattle.pair_facts.specs.Lines.{group_in, head_at, line_in, no_line}
 use Rattle.pair_facts.proofs.GroupLaws.{members_head}
+use Rattle.std.proofs.lemmas.Map.Keys.{any_passes_from_place}
+use Rattle.object_meaning.proofs.LineLaws.{line_is}
+use Rattle.pair_facts.proofs.OwnLaws.{head_none}
 
 -- ---- lists
 
@@ -53,14 +56,6 @@ only_one x y zero is = (cc, refl)
 only_one x y (suc i) is = absurd cc
 
 -- ---- heads
-
-pub head_none : (lines : List Line) (place : ℕ) → is_statepoint (line_in lines place).inst.op ≡ false → is_member (line_in lines place).inst.op ≡ false
-    → head_at lines place ≡ None
-head_none lines zero no_statepoint no_member = rw (no_statepoint, no_member) refl
-head_none lines (suc place) no_statepoint no_member = rw (no_statepoint, no_member) refl
-
-pub in_place : (lines : List Line) (place : ℕ) (line : Line) → slice_get lines place ≡ Some line → line_in lines place ≡ line
-in_place lines place line at = get_or_from_slice_get lines place line no_line at
 
 module _ (func : Function) (table : List Operand) (naming : Naming) where
   abbrev pub to : Name → ℕ
@@ -138,11 +133,11 @@ module _ (func : Function) (table : List Operand) (naming : Naming) where
 
   pub member_of : (b k i : ℕ) (line : Line) (piece : Piece) → slice_get (group func table naming to b k line) i ≡ Some piece → MemberOf b k i line piece
   member_of b k i line piece at =
-      elim (split_place (result_of func table naming to b k line line.to) (map (relocate_of func table naming to b k) (live_list func table b k)) i piece at) [
+      elim (get_joined (result_of func table naming to b k line line.to) (map (relocate_of func table naming to b k) (live_list func table b k)) i piece at) [
         | inl result ↦ result_of_is b k i line piece line.to refl result
         | inr there ↦
             let before = map_back (relocate_of func table naming to b k) (live_list func table b k) there.0 piece there.2 in
-            is_relocate before.before (any_at (λ (x : ℕ). eqb x before.before) (live_list func table b k) there.0 before.before before.stands (eq-eqb before.before before.before refl)) before.is
+            is_relocate before.before (any_passes_from_place (λ (x : ℕ). eqb x before.before) (live_list func table b k) there.0 before.before before.stands (eq-eqb before.before before.before refl)) before.is
       ]
 
   pub member_is : (b k i : ℕ) (line : Line) (piece : Piece) → MemberOf b k i line piece → is_member piece.inst.op ≡ true
@@ -169,7 +164,7 @@ module _ (func : Function) (table : List Operand) (naming : Naming) where
 
   of_piece : (b j : ℕ) (piece : Piece) → PieceFrom func table naming to b j piece → ComesFrom b j (written piece)
   of_piece b j piece (from_join v at same) =
-      let parts = among_filter (naming.joins b) v (pointers func) (any_at (λ (x : ℕ). eqb x v) (joined_at func naming b) j v at (eq-eqb v v refl)) in
+      let parts = among_filter (naming.joins b) v (pointers func) (any_passes_from_place (λ (x : ℕ). eqb x v) (joined_at func naming b) j v at (eq-eqb v v refl)) in
       from_inserted v parts.1 (ap written same)
   of_piece b j piece (from_line k i line at place there) = elim (call_or_not line.inst.op) [
     | is_none other ↦
@@ -218,7 +213,7 @@ module _ (func : Function) (table : List Operand) (naming : Naming) where
 
     pub plain_head : (b k : ℕ) (line : Line) → slice_get (lines_at func b) k ≡ Some line → is_call line.inst.op ≡ false → head_at (lines b) (start_of b k) ≡ None
     plain_head b k line at other =
-        let there = in_place (lines b) (start_of b k) (written (plain func table naming to b k line)) (plain_now b k line at other) in
+        let there = line_is (lines b) (start_of b k) (written (plain func table naming to b k line)) (plain_now b k line at other) in
         head_none (lines b) (start_of b k) (ap (λ (l : Line). is_statepoint l.inst.op) there ∙ plain_form.no_statepoint b k line at)
         (ap (λ (l : Line). is_member l.inst.op) there ∙ plain_form.no_member b k line at)
 
@@ -244,12 +239,12 @@ module _ (func : Function) (table : List Operand) (naming : Naming) where
       pub member_head : (i : ℕ) → i ≤ length part → head_at (lines b) (start_of b k + i) ≡ Some (start_of b k)
       member_head i within =
           members_head (lines b) (start_of b k) (start_of b k + i)
-          (ap (λ (l : Line). is_statepoint l.inst.op) (in_place (lines b) (start_of b k) (written (statepoint func table naming to b k callee types line.inst)) (head_now b k line callee types at op no_leaf)))
+          (ap (λ (l : Line). is_statepoint l.inst.op) (line_is (lines b) (start_of b k) (written (statepoint func table naming to b k callee types line.inst)) (head_now b k line callee types at op no_leaf)))
           (omega arith)
           (λ place low high.
           let some = get_some part (place - suc (start_of b k)) (omega arith) in
           let e : start_of b k + suc (place - suc (start_of b k)) ≡ place = omega arith in
-          let there = in_place (lines b) place (written some.0) (ap (slice_get (lines b)) (sym e) ∙ member_now b k line callee types at op no_leaf (place - suc (start_of b k)) some.0 some.1) in
+          let there = line_is (lines b) place (written some.0) (ap (slice_get (lines b)) (sym e) ∙ member_now b k line callee types at op no_leaf (place - suc (start_of b k)) some.0 some.1) in
           ap (λ (l : Line). is_member l.inst.op) there ∙ member_is b k (place - suc (start_of b k)) line some.0 (member_of b k (place - suc (start_of b k)) line some.0 some.1))
 
       pub group_now : group_in (lines b) (start_of b k) ≡ map written part

@@ -43,7 +43,10 @@ use Rattle.rewritten_sound.proofs.pairs.EdgeFacts.{alive_along, edge_law}
 use Rattle.rewritten_sound.proofs.pairs.GroupFacts.{group_holds}
 use Rattle.rewritten_sound.proofs.pairs.HoldFacts.{Holds, IsAlive, alive_from, base_alive, operand_fresh, operand_pair, pointer_argument}
 use Rattle.rewritten_sound.proofs.pairs.LineFacts.{line_holds}
-use Rattle.rewritten_sound.proofs.pairs.NowPlaces.{call_next, group_now, head_none, head_now, in_place, lines, member_head, phis_now, plain_head, plain_next, plain_now, start_of, written}
+use Rattle.rewritten_sound.proofs.pairs.NowPlaces.{call_next, group_now, head_now, lines, member_head, phis_now, plain_head, plain_next, plain_now, start_of, written}
+use Rattle.object_meaning.proofs.LineLaws.{line_is}
+use Rattle.pair_facts.proofs.OwnLaws.{head_none}
+use Rattle.ir_ast.proofs.OpLaws.{phi_outside}
 
 -- ---- behind a line
 
@@ -66,16 +69,12 @@ behind_plain lines place pairs is le =
     ap (λ (found : Option ℕ). option_map_or (λ (head : ℕ). after_group (entries_of (line_in lines head).inst) (group_in lines head)) found (otherwise lines place pairs)) is
     ∙ ap (λ (t : Bool). cond t pairs (after pairs (line_before lines place) (line_in lines place))) (le-ltb place (phi_count lines) le)
 
-phi_is_plain : (op : Op) → is_phi op ≡ true → (is_statepoint op ≡ false) × (is_member op ≡ false)
-phi_is_plain Phi is = (refl, refl)
-phi_is_plain _ is = absurd (false≢true is)
-
 -- phis have acted on the edge
 front_stays : (lines : List Line) (front : Pairs) (place : ℕ) → place ≤ phi_count lines → pairs_at lines front place ≡ front
 front_stays lines front zero within = refl
 front_stays lines front (suc place) within =
     let passes = prefix_len_passes (λ (line : Line). is_phi line.inst.op) lines place no_line (omega (arith, within)) in
-    let apart = phi_is_plain (line_in lines place).inst.op passes in
+    let apart = phi_outside (line_in lines place).inst.op passes in
     behind_phi lines place (pairs_at lines front place) (head_none lines place apart.0 apart.1) (omega (arith, within))
     ∙ front_stays lines front place (omega (arith, within))
 
@@ -107,7 +106,7 @@ module _ (func : Function) (table : List Operand) (naming : Naming) (fits : Fits
         let e : phi_count (lines_at func b) + (k - phi_count (lines_at func b)) ≡ k = omega arith in
         let up = subst (λ (n : ℕ). start_of func table naming b (phi_count (lines_at func b)) ≤ start_of func table naming b n) e (start_up b (phi_count (lines_at func b)) (k - phi_count (lines_at func b))) in
         let count = phis_now func table naming room plain_form b in
-        let there = in_place (lines func table naming b) (start_of func table naming b k) (written func table naming (plain func table naming to b k line)) (plain_now func table naming b k line at other) in
+        let there = line_is (lines func table naming b) (start_of func table naming b k) (written func table naming (plain func table naming to b k line)) (plain_now func table naming b k line at other) in
         let step = behind_plain (lines func table naming b) (start_of func table naming b k) (pairs_before k) (plain_head func table naming room plain_form b k line at other) (omega (arith, up, count)) in
         let next = plain_next func table naming b k line at other in
         subst (HoldsAt b (suc k))
@@ -128,7 +127,7 @@ module _ (func : Function) (table : List Operand) (naming : Naming) (fits : Fits
         let next : start_of func table naming b (suc k) ≡ suc (start_of func table naming b k + length (group func table naming to b k line)) =
         (let e = call_next func table naming b k line callee types at op no_leaf in omega (arith, e)) in
         let head = member_head func table naming room plain_form b k line callee types at op no_leaf (length (group func table naming to b k line)) (omega arith) in
-        let there = in_place (lines func table naming b) (start_of func table naming b k) (written func table naming (statepoint func table naming to b k callee types line.inst))
+        let there = line_is (lines func table naming b) (start_of func table naming b k) (written func table naming (statepoint func table naming to b k callee types line.inst))
         (head_now func table naming b k line callee types at op no_leaf) in
         let members = group_now func table naming room plain_form b k line callee types at op no_leaf in
         let place = start_of func table naming b k + length (group func table naming to b k line) in

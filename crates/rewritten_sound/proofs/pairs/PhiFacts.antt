@@ -41,8 +41,8 @@ use Rattle.object_meaning.specs.Lines.{Line}
 use Rattle.rewriting_forms.specs.Numbered.{among, base_at, gives, is_given, lines_at, named, pointers}
 use Rattle.rewriting_forms.specs.Liveness.{live_table}
 use Rattle.rewriting_laws.specs.Laws.{Edge}
-use Rattle.rewriting_laws.proofs.LiveLaws.{any_at, table_closed}
-use Rattle.rewriting_laws.proofs.NameLemmas.{at_rest, found, given_is}
+use Rattle.rewriting_laws.proofs.LiveLaws.{table_closed}
+use Rattle.rewriting_laws.proofs.NameLemmas.{at_rest, found}
 use Rattle.base_laws.proofs.TypeLaws.{type_of_given}
 use Rattle.base_definite.specs.Paths.{HasDefiniteBases}
 use Rattle.base_definite.proofs.base_paths.GivesLaws.{defines_gives, given_named, gives_at, one_text_place, one_value, stands_one}
@@ -55,57 +55,16 @@ use Rattle.pair_facts.specs.Lines.{operand_at, phis_in}
 use Rattle.pair_facts.specs.Pairs.{along, incoming}
 use Rattle.rewritten_sound.specs.Takes.{IsPointer, base_of}
 use Rattle.rewritten_sound.proofs.pairs.BaseFacts.{entry_base, fits_pointer, pointer_is, underived_own}
-use Rattle.rewritten_sound.proofs.pairs.EdgeFacts.{gives_any, no_phi, phi_found, prefix_all, prefix_within}
+use Rattle.rewritten_sound.proofs.pairs.EdgeFacts.{gives_any, no_phi, phi_found}
 use Rattle.rewritten_sound.proofs.pairs.StayFacts.{steady}
+use Rattle.object_meaning.proofs.LineLaws.{given_is}
+use Rattle.std.proofs.lemmas.Map.Keys.{any_passes_from_place}
+use Rattle.ir_ast.proofs.OpLaws.{merge_goes_on, phi_is}
+use Rattle.list_laws.proofs.Tests.{prefix_passes}
+use Rattle.rewriting_laws.proofs.JumpLemmas.{prefix_within}
+use Rattle.base_definite.proofs.base_paths.StayLaws.{last_of_block, text_before}
 
 -- ---- the line before a merge
-
-merge_goes_on : (op : Op) → is_merge op ≡ true → is_terminator op ≡ false
-merge_goes_on ops.Phi merge = refl
-merge_goes_on ops.Select merge = refl
-merge_goes_on op merge = cc
-
-last_of_block : (func : Function) → All (λ block. EndsAtTerminator block.insts) func.blocks → (number : ℕ) (block : BasicBlock) → slice_get func.blocks number ≡ Some block
-    → (place : ℕ) × (length block.insts ≡ place + 1) × ((inst : Instruction) → Stands func number place inst → is_terminator inst.op ≡ true)
-last_of_block func ends number block at =
-    let ended = all_at (λ (each : BasicBlock). EndsAtTerminator each.insts) func.blocks number block ends at in
-    let long = length-append ended.before (ended.last ∷ []) in
-    let whole = ap length ended.whole in
-    let here : slice_get block.insts (length ended.before) ≡ Some ended.last = ap (λ insts. slice_get insts (length ended.before)) ended.whole ∙ get_middle ended.before ended.last [] in (
-      length ended.before,
-      omega arith,
-      λ inst stands.
-          let same = stands_one func number (length ended.before) inst ended.last stands (record { block = block; in_function = at; in_block = here }) in
-          ap (λ i. is_terminator i.op) same ∙ ended.ends,
-    )
-
--- what stands directly before a place in the text stands before it in its block, if it is no terminator
-text_before : (func : Function) → All (λ block. EndsAtTerminator block.insts) func.blocks → (number place : ℕ) (inst : Instruction) → Stands func number place inst
-    → (line : Instruction) (at : ℕ) → slice_get (instructions_of func.blocks) at ≡ Some line → is_terminator line.op ≡ false → suc at ≡ text_place func number place
-    → (before : ℕ) × (place ≡ suc before) × Stands func number before line
-text_before func ends number (suc before) inst stands line at there goes_on next =
-    let some = get_some stands.block.insts before (let within = slice_get_within stands.block.insts (suc before) inst stands.in_block in omega arith) in
-    let stands_before : Stands func number before some.0 = record { block = stands.block; in_function = stands.in_function; in_block = some.1 } in
-    let in_text = stands_in_text func number before some.0 stands_before in
-    let same_place : at ≡ text_place func number before = omega arith in
-    let both : Some line ≡ Some some.0 = sym there ∙ (ap (slice_get (instructions_of func.blocks)) same_place ∙ in_text) in
-    let same : line ≡ some.0 = cc in
-    (before, refl, subst (λ (i : Instruction). Stands func number before i) (sym same) stands_before)
-text_before func ends zero zero inst stands line at there goes_on next = absurd (omega arith)
-text_before func ends (suc number) zero inst stands line at there goes_on next =
-    let some = get_some func.blocks number (let within = slice_get_within func.blocks (suc number) stands.block stands.in_function in omega arith) in
-    let last = last_of_block func ends number some.0 some.1 in
-    let further = text_next func number some.0 some.1 in
-    let found_last = get_some some.0.insts last.0 (let long = last.1 in omega arith) in
-    let stands_last : Stands func number last.0 found_last.0 = record { block = some.0; in_function = some.1; in_block = found_last.1 } in
-    let in_text = stands_in_text func number last.0 found_last.0 stands_last in
-    let number_is : number + 1 ≡ suc number = omega arith in
-    let start : text_place func (suc number) 0 ≡ text_place func number 0 + length some.0.insts = ap (λ n. text_place func n 0) (sym number_is) ∙ further in
-    let same_place : at ≡ text_place func number last.0 = let long = last.1 in omega arith in
-    let both : Some line ≡ Some found_last.0 = sym there ∙ (ap (slice_get (instructions_of func.blocks)) same_place ∙ in_text) in
-    let same : line ≡ found_last.0 = cc in
-    let ends_here : is_terminator line.op ≡ true = ap (λ i. is_terminator i.op) same ∙ last.2 found_last.0 stands_last in
-    absurd cc
 
 -- ---- what a value's base says of the line that gives it
 
@@ -149,10 +108,6 @@ zip_at func merged [] others k o zip at = absurd (none-some o at)
 zip_at func merged (x ∷ given) [] k o zip at = absurd zip
 zip_at func merged (x ∷ given) (y ∷ others) zero o zip at = let same : x ≡ o = cc in subst (λ (z : Operand). Base func merged z y) same zip.0
 zip_at func merged (x ∷ given) (y ∷ others) (suc k) o zip at = zip_at func merged given others k o zip.1 at
-
-phi_op : (op : Op) → is_phi op ≡ true → op ≡ ops.Phi
-phi_op ops.Phi is = refl
-phi_op op is = absurd (false≢true is)
 
 module _ (content : ModuleContent) (func : Function) (table : List Operand) (merged : ℕ → ValueId) (has : HasDefiniteBases func merged) (bases : IsBaseTable func merged table)
     (bare : PhisAreBare func) (phis_right : PhisAreRight func) (reached : IsReached func) (forms : All IsLine (instructions_of func.blocks))
@@ -224,7 +179,7 @@ module _ (content : ModuleContent) (func : Function) (table : List Operand) (mer
     phis = phis_in (lines_at func to)
 
     all_phis : (k : ℕ) (x : Line) → slice_get phis k ≡ Some x → is_phi x.inst.op ≡ true
-    all_phis k x is = prefix_all (λ (line : Line). is_phi line.inst.op) (lines_at func to) k x is
+    all_phis k x is = prefix_passes (λ (line : Line). is_phi line.inst.op) (lines_at func to) k x is
 
     in_lines : (k : ℕ) (x : Line) → slice_get phis k ≡ Some x → slice_get (lines_at func to) k ≡ Some x
     in_lines k x is =
@@ -251,7 +206,7 @@ module _ (content : ModuleContent) (func : Function) (table : List Operand) (mer
         let counted = right.counted from in
         let label = count_found from phi.inst.labels (omega (arith, some, edges_are, counted)) in
         let first = found (λ (l : BlockId). eqb l.0 from) phi.inst.labels label.0 label.1 label.2 (eq-eqb (label.1).0 from label.3) in
-        let form = subst (λ (o : Op). LineOf o phi.inst) (phi_op phi.inst.op is) (all_at IsLine (instructions_of func.blocks) _ phi.inst forms (stands_in_text func to k phi.inst stands)) in
+        let form = subst (λ (o : Op). LineOf o phi.inst) (phi_is phi.inst.op is) (all_at IsLine (instructions_of func.blocks) _ phi.inst forms (stands_in_text func to k phi.inst stands)) in
         let count = form.0.label_count in
         let within = slice_get_within phi.inst.labels first.0 first.1 first.3 in
         let operand = get_some phi.inst.operands first.0 (omega (arith, count, within)) in
@@ -265,7 +220,7 @@ module _ (content : ModuleContent) (func : Function) (table : List Operand) (mer
     taken_pointer : (k v : ℕ) (phi : Line) → slice_get (lines_at func to) k ≡ Some phi → is_phi phi.inst.op ≡ true → gives phi v ≡ true → among v (pointers func) ≡ true → (one : Taken phi.inst)
         → IsPointer func table one.operand
     taken_pointer k v phi at is given pointer one =
-        let op = phi_op phi.inst.op is in
+        let op = phi_is phi.inst.op is in
         let type = same_Some phi.inst.ty types.Ptr
         (sym (ap (λ (o : Op). Some (outcome_type o phi.inst.ty)) op) ∙ sym (type_of_given func v (outcome phi.inst) (gives_here to k v phi at given)) ∙ pointer_is func v pointer) in
         let line = all_at (IsTyped (scope_of content func)) (instructions_of func.blocks) _ phi.inst typed (stands_in_text func to k phi.inst (line_from func to k phi at).stands) in
@@ -278,7 +233,7 @@ module _ (content : ModuleContent) (func : Function) (table : List Operand) (mer
         → base_of func table o ≡ o
     taken_own v phi given is none place (operands.Value value) at pointer =
         underived_own content func table merged has.bases bases typed underived value.0 pointer
-        (λ derived. none (by_merge v value.0 phi given (ap is_merge (phi_op phi.op is)) (uses_operand phi place value.0 at) derived))
+        (λ derived. none (by_merge v value.0 phi given (ap is_merge (phi_is phi.op is)) (uses_operand phi place value.0 at) derived))
     taken_own v phi given is none place (operands.Int word) at pointer = refl
     taken_own v phi given is none place operands.Null at pointer = refl
     taken_own v phi given is none place (operands.Fun called) at pointer = refl
@@ -287,14 +242,14 @@ module _ (content : ModuleContent) (func : Function) (table : List Operand) (mer
     merged_takes : (k v : ℕ) (phi : Line) → slice_get (lines_at func to) k ≡ Some phi → is_phi phi.inst.op ≡ true → gives phi v ≡ true → Derived func v → k < phi_count (lines_at func to)
         → (one : Taken phi.inst) → IsPointer func table one.operand → along from phis (named (merged v).0) ≡ base_of func table one.operand
     merged_takes k v phi at is given derived below one pointer =
-        let op = phi_op phi.inst.op is in
+        let op = phi_is phi.inst.op is in
         let merge : is_merge phi.inst.op ≡ true = ap is_merge op in
         let own_line = merged_line to k v phi at given merge derived in
         let next = own_line.next in
         let in_phis : slice_get phis own_line.before ≡ Some own_line.line =
         get_taken (lines_at func to) own_line.before (phi_count (lines_at func to)) (omega (arith, next, below)) ∙ own_line.stands in
         let gives_w : gives own_line.line (merged v).0 ≡ true = ap (λ (t : Option ℕ). is_given t (merged v).0) own_line.gives_merged ∙ eq-eqb (merged v).0 (merged v).0 refl in
-        let any = any_at (λ (x : Line). gives x (merged v).0) phis own_line.before own_line.line in_phis gives_w in
+        let any = any_passes_from_place (λ (x : Line). gives x (merged v).0) phis own_line.before own_line.line in_phis gives_w in
         let first = phi_found from (merged v).0 phis any in
         let places = one_definition func (merged v).0 to first.0 to own_line.before
         (given_defines func (merged v).0 to first.0 first.1 (in_lines first.0 first.1 first.2) (given_is (first.1).to (merged v).0 first.3))
@@ -368,7 +323,7 @@ module _ (content : ModuleContent) (func : Function) (table : List Operand) (mer
             ∙ sym (ap (base_of func table) same
             ∙ taken_own v phi.inst (gives_here to k v phi (in_lines k phi at) given) (all_phis k phi at) none one.place one.operand one.stands is_pointer_there)
         by k phi at given one is_pointer_there same (is_stepped from_pointer step first rest) =
-            absurd (true≢false (sym step ∙ ap is_step (phi_op phi.inst.op (all_phis k phi at))))
+            absurd (true≢false (sym step ∙ ap is_step (phi_is phi.inst.op (all_phis k phi at))))
         by k phi at given one is_pointer_there same (is_merged merge derived base) =
             let within = slice_get_within phis k phi at in
             let count = prefix_within (λ (line : Line). is_phi line.inst.op) (lines_at func to) in

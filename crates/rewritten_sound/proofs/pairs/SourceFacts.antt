@@ -45,14 +45,11 @@ use Rattle.rewritten_sound.specs.Pairs.{HasTypedBases, TakesBases}
 use Rattle.rewritten_sound.specs.Takes.{HasPairs}
 use Rattle.rewritten_sound.proofs.pairs.PairsFacts.{bases_have_pairs}
 use Rattle.rewritten_sound.proofs.pairs.Verdict.{fitting_is_verified}
-
-phi_op : (op : Op) → is_phi op ≡ true → op ≡ ops.Phi
-phi_op ops.Phi is = refl
-phi_op op is = absurd (false≢true is)
+use Rattle.ir_ast.proofs.OpLaws.{phi_is}
 
 bare_phis : (func : Function) → All IsLine (instructions_of func.blocks) → PhisAreBare func
 bare_phis func forms b k inst stands one =
-    (subst (λ (op : Op). LineOf op inst) (phi_op inst.op one) (all_at IsLine (instructions_of func.blocks) _ inst forms (stands_in_text func b k inst stands))).0.no_bundle
+    (subst (λ (op : Op). LineOf op inst) (phi_is inst.op one) (all_at IsLine (instructions_of func.blocks) _ inst forms (stands_in_text func b k inst stands))).0.no_bundle
 
 module _ (content : ModuleContent) (is : IsReachedSource content) (number : ℕ) where
   module _ (func : Function) (found : slice_get content.funcs number ≡ Some func) where

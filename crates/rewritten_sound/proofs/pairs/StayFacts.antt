@@ -26,8 +26,7 @@ use Rattle.object_meaning.specs.Lines.{Line}
 use Rattle.rewriting_forms.specs.Numbered.{among, base_at, gives, line_at, lines_at, named, pointers}
 use Rattle.rewriting_forms.specs.Liveness.{IsUse, Live, any_held, crosses, entry, held, is_live, is_live_after, is_use, later, live_table, used}
 use Rattle.rewriting_laws.proofs.LiveExact.{any_found, live_complete, live_sound, use_from, use_is}
-use Rattle.rewriting_laws.proofs.LiveLaws.{any_at}
-use Rattle.rewriting_laws.proofs.NameLemmas.{among_filter, given_is, line_is}
+use Rattle.rewriting_laws.proofs.NameLemmas.{among_filter, line_is}
 use Rattle.base_definite.specs.Comings.{Comes, over_edge, past_line, to_entry}
 use Rattle.base_definite.specs.Paths.{HasDefiniteBases}
 use Rattle.base_definite.proofs.base_paths.GivesLaws.{defines_gives, given_high}
@@ -38,6 +37,8 @@ use Rattle.rewritten_sound.specs.LeadsOut.{PhisAreBare}
 use Rattle.rewritten_sound.proofs.definite.LineLaws.{given_defines, gives_defines, line_from}
 use Rattle.rewritten_sound.proofs.definite.UsedLaws.{edge_block, held_used, in_table, live_defined, operand_used, phis_agree, use_undefined}
 use Rattle.rewritten_sound.specs.Takes.{IsOwn, IsPointer, base_of}
+use Rattle.object_meaning.proofs.LineLaws.{given_is}
+use Rattle.std.proofs.lemmas.Map.Keys.{any_passes_from_place}
 
 abbrev pub numbered : ℕ → ValueId
 numbered v = record { 0 = v }
@@ -142,7 +143,7 @@ module _ (func : Function) (table : List Operand) (merged : ℕ → ValueId) (ha
         inr (v, itself, contains_get (pointers func) place.0 v (place.2 ∙ ap (λ x. Some x) same), base)
     use_base v w pointer base o (inr derived) =
         let at = get_contained (pointers func) derived.0 derived.2 in
-        let is_one : among derived.0 (pointers func) ≡ true = any_at (λ (x : ℕ). eqb x derived.0) (pointers func) at.0 derived.0 at.1 (eq-eqb derived.0 derived.0 refl) in
+        let is_one : among derived.0 (pointers func) ≡ true = any_passes_from_place (λ (x : ℕ). eqb x derived.0) (pointers func) at.0 derived.0 at.1 (eq-eqb derived.0 derived.0 refl) in
         let alone : base_at table v ≡ named v = subst (λ (x : Operand). base_of func table x ≡ x) derived.3 (own derived.0 is_one).1 in
         inr (derived.0, derived.1, derived.2, derived.3 ∙ sym alone ∙ base)
 
@@ -169,7 +170,7 @@ module _ (func : Function) (table : List Operand) (merged : ℕ → ValueId) (ha
               let this = use_base v w pointer base (found.1).1 (use_is func table v (found.1).1 found.3) in
               or_right (not (among w (pointers func))) (is_live_after func table b k w)
               (or_left (any_held func table w (line_at func b k).inst) (is_live func table b (suc k) w)
-              (any_at (λ (e : Ty × Operand). is_use func table w e.1) (line_at func b k).inst.bundle found.0 found.1 found.2 (use_from func table w (found.1).1 this)))
+              (any_passes_from_place (λ (e : Ty × Operand). is_use func table w e.1) (line_at func b k).inst.bundle found.0 found.1 found.2 (use_from func table w (found.1).1 this)))
         ]
 
     -- a pointer that is live at the entry is an argument, and its own base

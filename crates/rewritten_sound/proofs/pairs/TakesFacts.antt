@@ -65,6 +65,7 @@ use Rattle.rewritten_sound.proofs.pairs.MadeFacts.{MadeBlock, MadeLine, accesses
 use Rattle.rewritten_sound.proofs.pairs.PhiFacts.{base_same}
 use Rattle.rewritten_sound.proofs.pairs.SourceFacts.{bare_there, bases_there, lines_there, phis_there, reached_there, table_there, taking_is_verified, typed_there}
 use Rattle.rewritten_sound.proofs.pairs.UnderivedFacts.{underived}
+use Rattle.list_laws.proofs.Booleans.{and_three}
 
 -- a value with a new number is one
 renumbered_value : (func : Function) (marks : List Bool) (operand : Operand) (value : ValueId) → operands.Value value ≡ renumbered func marks operand
@@ -102,12 +103,6 @@ merge_escapes : (op : Op) (line : Instruction) (operand : Operand) → is_merge 
 merge_escapes ops.Phi line operand merge within = contains_none operand within
 merge_escapes ops.Select line operand merge within = contains_none operand within
 merge_escapes op line operand merge within = false≢true merge
-
-both_true : (a b c : Bool) → a ≡ true → b ≡ true → c ≡ true → (a && (b && c)) ≡ true
-both_true true true true first second third = refl
-both_true true true false first second third = third
-both_true true false c first second third = second
-both_true false b c first second third = first
 
 module _ (content : ModuleContent) (is : IsReachedSource content) (number : ℕ) (func : Function) (found : slice_get content.funcs number ≡ Some func) where
   abbrev made : Function
@@ -334,7 +329,7 @@ module _ (content : ModuleContent) (is : IsReachedSource content) (number : ℕ)
         eq-eqb (kind_of (cell_of here.inst.ty)) (kind_of (cell_of line.inst.ty)) (ap (λ (t : Ty). kind_of (cell_of t)) (sym access.type_is)) in
         ap (λ (n : ℕ). is_checked (lines_at made b) n address line.inst.ty) next
         ∙ (ap (λ (l : Option Line). option_map_or (checks_access address line.inst.ty) l false) forth.1
-        ∙ (ap (λ (i : Instruction). checks_access address line.inst.ty (record (forth.0) { inst = i })) forth.2 ∙ both_true true _ _ refl is_address is_kind))
+        ∙ (ap (λ (i : Instruction). checks_access address line.inst.ty (record (forth.0) { inst = i })) forth.2 ∙ and_three true _ _ refl is_address is_kind))
       where
         all_at_ready : slice_get (instructions_of (placed func).blocks) (text_place (placed func) b here.from) ≡ Some here.inst → IsReady (renamings content) (placed func) here.inst
         all_at_ready at = all_at (IsReady (renamings content) (placed func)) (instructions_of (placed func).blocks) (text_place (placed func) b here.from) here.inst (all_ready content is.source number func found) at

@@ -5,7 +5,7 @@ use Rattle.std.specs.List.{All, AllZip, Contains}
 use Rattle.std.proofs.lemmas.Bool.{false≢true}
 use Rattle.std.proofs.lemmas.Option.{none-some, same_Some}
 use Rattle.list_laws.proofs.Contents.{all_at, get_contained}
-use Rattle.list_laws.proofs.Places.{filter_map_back}
+use Rattle.list_laws.proofs.Places.{filter_map_back, get_joined}
 use Rattle.sp_ids.specs.declared.ids.ValueId.{ValueId}
 use Rattle.ir_ast.specs.declared.types.Ty.{Ty}
 use Rattle.ir_ast.specs.declared.types.Ty.TheVariants as types
@@ -24,16 +24,12 @@ use Rattle.ir_ast.specs.Scope.{scope_of}
 use Rattle.ir_ast.specs.Types.{is_pointer}
 use Rattle.ir_ast.specs.Values.{Gives, outcome, outcome_type, value_types}
 use Rattle.ir_ast.specs.Faults.TypeClash.{Fits, IsTyped, asked}
-use Rattle.ir_ast.proofs.BaseLemmas.{same_instruction}
+use Rattle.ir_ast.proofs.BaseLemmas.{same_instruction, steps_or_merges}
 use Rattle.rewriting_forms.specs.Numbered.{named}
 use Rattle.base_laws.proofs.TypeLaws.{type_of_given}
 use Rattle.base_definite.proofs.base_relations.GroupLaws.{given_at}
-use Rattle.rewritten_sound.proofs.definite.PieceLaws.{split_place}
 use Rattle.rewritten_sound.proofs.pairs.PhiFacts.{fits_repeated}
-
-pointer_ty : (ty : Ty) → is_pointer ty ≡ true → ty ≡ types.Ptr
-pointer_ty types.Ptr is = refl
-pointer_ty ty is = absurd cc
+use Rattle.ir_ast.proofs.OpLaws.{pointer_is}
 
 value_back : (o : Operand) (v : ℕ) → value_in o ≡ Some v → o ≡ named v
 value_back (operands.Value value) v is = let same : value.0 ≡ v = cc in ap named same
@@ -50,7 +46,7 @@ used_operand inst v bare used =
     let place = get_contained (values_used inst) v used in
     let from = filter_map_back value_in (operands_of inst) v place.0 place.1 in
     let item = value_back from.item v from.gives in
-    elim (split_place inst.operands (map (λ (entry : Ty × Operand). entry.1) inst.bundle) from.place from.item from.stands) [
+    elim (get_joined inst.operands (map (λ (entry : Ty × Operand). entry.1) inst.bundle) from.place from.item from.stands) [
       | inl here ↦ (from.place, here ∙ ap (λ o. Some o) item)
       | inr there ↦
           absurd (no_place there.0 from.item (ap (λ (entries : List (Ty × Operand)). slice_get (map (λ (entry : Ty × Operand). entry.1) entries) there.0) (sym bare) ∙ there.2))
@@ -68,11 +64,6 @@ zip_from func merged given [] k o zip at = absurd (none-some o at)
 zip_from func merged [] (y ∷ others) k o zip at = absurd zip
 zip_from func merged (x ∷ given) (y ∷ others) zero o zip at = let same : y ≡ o = cc in (x, subst (Base func merged x) same zip.0)
 zip_from func merged (x ∷ given) (y ∷ others) (suc k) o zip at = zip_from func merged given others k o zip.1 at
-
-both_kinds : (op : Op) → is_step op ≡ true → is_merge op ≡ true → ⊥
-both_kinds ops.Phi step merge = cc
-both_kinds ops.Select step merge = cc
-both_kinds op step merge = cc
 
 module _ (content : ModuleContent) (func : Function) (merged : ℕ → ValueId) (has : HasBases func merged) (forms : All IsLine (instructions_of func.blocks))
     (typed : All (IsTyped (scope_of content func)) (instructions_of func.blocks)) where
@@ -92,7 +83,7 @@ module _ (content : ModuleContent) (func : Function) (merged : ℕ → ValueId) 
 
   step_type : (inst : Instruction) (op : Op) → inst.op ≡ op → is_step op ≡ true → IsLine inst → outcome_type inst.op inst.ty ≡ types.Ptr
   step_type inst (ops.Gep elem index_width place) is step form =
-      ap (λ (o : Op). outcome_type o inst.ty) is ∙ pointer_ty inst.ty (subst (λ (o : Op). LineOf o inst) is form).0.type
+      ap (λ (o : Op). outcome_type o inst.ty) is ∙ pointer_is inst.ty (subst (λ (o : Op). LineOf o inst) is form).0.type
   step_type inst op is step form = absurd (false≢true step)
 
   -- a merge of a pointer is one
@@ -146,7 +137,7 @@ module _ (content : ModuleContent) (func : Function) (merged : ℕ → ValueId) 
       let same : (merged value.0).0 ≡ w = cc in
       let as_in = has.each value.0 inst gives_inst merge derived in
       let same_line = same_instruction func w line (has.inserted value.0) given (subst (λ (n : ℕ). Gives func n (has.inserted value.0)) same as_in.given) in
-      both_kinds line.op step (ap (λ (i : Instruction). is_merge i.op) same_line ∙ ap is_merge as_in.op ∙ merge)
+      steps_or_merges line.op step (ap (λ (i : Instruction). is_merge i.op) same_line ∙ ap is_merge as_in.op ∙ merge)
   never _ (by_merge w o line given line_merge used derived_o) _ _ (of_merge value inst gives_inst merge derived) is =
       let both : Some (merged value.0).0 ≡ Some w = ap value_in is in
       let same : (merged value.0).0 ≡ w = cc in

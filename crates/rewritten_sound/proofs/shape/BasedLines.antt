@@ -52,11 +52,11 @@ use Rattle.base_laws.proofs.ReadyLaws.{renamings}
 use Rattle.base_laws.proofs.TypeLaws.{IsTypedLine, compares_pointers, phi_of_pointers, select_of_pointers}
 use Rattle.base_definite.proofs.base_relations.GroupLaws.{group_of, located, value_at}
 use Rattle.base_definite.proofs.base_relations.TableInstance.{all_ready, is_here, pointers}
-use Rattle.rewritten_sound.proofs.definite.PieceLaws.{split_place}
 use Rattle.rewritten_sound.specs.WellFormed.{Carries, CarriesEntry, IsWellFormed}
 use Rattle.rewritten_sound.proofs.shape.BasedTypes.{base_fits, line_type, now_fits, type_kept}
 use Rattle.rewritten_sound.proofs.shape.KeptLaws.{AreAlike, values_known, well_carried}
 use Rattle.rewritten_sound.proofs.shape.PassLaws.{no_items}
+use Rattle.list_laws.proofs.Places.{get_joined}
 
 -- ---- operands of lines that are put in
 
@@ -89,7 +89,7 @@ no_typed_item h value word null values (first ∷ given) (ty ∷ wanted) fits cl
 -- the operands of a line without a bundle
 line_items : (P : ℕ → Type 0) (h : Operand → Option ℕ) → ((v : ValueId) → h (operands.Value v) ≡ None) → ((n : ℕ) → h (operands.Int n) ≡ None) → h operands.Null ≡ None
     → (line : Instruction) (values : List Ty) (wanted : List Ty) → AllZip (Fits values) line.operands wanted → list_all is_first_class wanted ≡ true → line.bundle ≡ [] → All P (filter_map h (operands_of line))
-line_items P h value word null line values wanted fits class bare = no_items P h (operands_of line) (λ k o at. elim (split_place line.operands (map (λ (entry : Ty × Operand). entry.1) line.bundle) k o at) [
+line_items P h value word null line values wanted fits class bare = no_items P h (operands_of line) (λ k o at. elim (get_joined line.operands (map (λ (entry : Ty × Operand). entry.1) line.bundle) k o at) [
   | inl own ↦ no_typed_item h value word null values line.operands wanted fits class k o own
   | inr there ↦ absurd (let none : slice_get [] there.0 ≡ Some o = ap (λ (bundle : List (Ty × Operand)). slice_get (map (λ (entry : Ty × Operand). entry.1) bundle) there.0) (sym bare) ∙ there.2 in none-some o none)
 ])

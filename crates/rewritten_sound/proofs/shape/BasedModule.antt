@@ -63,34 +63,9 @@ use Rattle.rewritten_sound.proofs.shape.BasedLines.{all_based_well}
 use Rattle.rewritten_sound.proofs.shape.FunctionLaws.{NoPoint, no_tokens}
 use Rattle.rewritten_sound.proofs.shape.GroupLaws.{no_live_entries, shape_plain}
 use Rattle.rewritten_sound.proofs.shape.SpellLaws.{digits_named, letters_differ}
+use Rattle.poll_place.proofs.PlacedLemmas.{few_placed, length-placed_from}
 
 -- ---- how many lines there are
-
-polled_short : (number : ℕ) (insts : List Instruction) → length (flat_map (polled number) insts) ≤ 2 * length insts
-polled_short number [] = omega arith
-polled_short number (inst ∷ insts) = by (retreats number inst) (polled_short number insts)
-  where
-    by : (b : Bool) → length (flat_map (polled number) insts) ≤ 2 * length insts → length (((if b then poll_call ∷ [] else []) ++ inst ∷ []) ++ flat_map (polled number) insts) ≤ 2 * suc (length insts)
-    by true rest = omega arith
-    by false rest = omega arith
-
-later_short : (number : ℕ) (blocks : List BasicBlock) → length (instructions_of (placed_from (suc number) blocks)) ≤ 2 * length (instructions_of blocks)
-later_short number [] = omega arith
-later_short number (block ∷ blocks) =
-    let here = polled_short (suc number) block.insts in
-    let rest = later_short (suc number) blocks in
-    let long = length-append (flat_map (polled (suc number)) block.insts) (instructions_of (placed_from (suc (suc number)) blocks)) in
-    let before = length-append block.insts (instructions_of blocks) in
-    omega (arith, here, rest, long, before)
-
-placed_short : (blocks : List BasicBlock) → length (instructions_of (placed_from 0 blocks)) ≤ 2 * length (instructions_of blocks) + 1
-placed_short [] = omega arith
-placed_short (block ∷ blocks) =
-    let here = polled_short 0 block.insts in
-    let rest = later_short 0 blocks in
-    let long = length-append (flat_map (polled 0) block.insts) (instructions_of (placed_from 1 blocks)) in
-    let before = length-append block.insts (instructions_of blocks) in
-    omega (arith, here, rest, long, before)
 
 module _ (func : Function) (marks : List Bool) where
   line_short : (next : ℕ) (inst : Instruction) (op : Op) → length (lines_for func marks next inst op) ≤ 2
@@ -135,10 +110,6 @@ placed_names : (from : ℕ) (blocks : List BasicBlock) → map (λ (block : Basi
 placed_names from [] = refl
 placed_names from (block ∷ blocks) = ap (λ names. block.name ∷ names) (placed_names (suc from) blocks)
 
-placed_long : (from : ℕ) (blocks : List BasicBlock) → length (placed_from from blocks) ≡ length blocks
-placed_long from [] = refl
-placed_long from (block ∷ blocks) = ap suc (placed_long (suc from) blocks)
-
 labels_same : (func : Function) → map (λ (block : BasicBlock). block.name) (based (placed func)).blocks ≡ map (λ (block : BasicBlock). block.name) func.blocks
 labels_same func = block_names (placed func) (derived_marks (placed func)) (length func.args) (placed func).blocks ∙ placed_names 0 func.blocks
 
@@ -147,7 +118,7 @@ based_lines : (func : Function) → length (instructions_of (based (placed func)
 based_lines func =
     let text = ap length (text_is (placed func)) in
     let short = based_short (placed func) (derived_marks (placed func)) (length func.args) (instructions_of (placed func).blocks) in
-    let polls = placed_short func.blocks in
+    let polls = few_placed func.blocks in
     omega (arith, text, short, polls)
 
 -- ---- names
@@ -366,7 +337,7 @@ module _ (content : ModuleContent) (source : IsSourceModule content) (number : �
   made_function = record {
     has_block =
         (let based = blocks_long (placed func) (derived_marks (placed func)) (length func.args) (placed func).blocks in
-        let polls = placed_long 0 func.blocks in
+        let polls = length-placed_from 0 func.blocks in
         let some = typed_function.has_block in
         omega (arith, based, polls, some));
     ends = shape.ends;

@@ -8,7 +8,7 @@ use Rattle.std.proofs.lemmas.Bool.{and_parts}
 use Rattle.std.proofs.lemmas.List.{same_from_push}
 use Rattle.std.proofs.lemmas.Option.{slice_get_within}
 use Rattle.list_laws.proofs.Contents.{all_at, all_from_at}
-use Rattle.list_laws.proofs.Places.{get_front, get_map, get_middle, map_back}
+use Rattle.list_laws.proofs.Places.{get_front, get_map, get_middle, map_back, take_front_of}
 use Rattle.ir_ast.specs.declared.types.Ty.{Ty}
 use Rattle.ir_ast.specs.declared.types.Ty.TheVariants as types
 use Rattle.ir_ast.specs.declared.types.Ty.TheVariants.{Ptr}
@@ -38,7 +38,7 @@ use Rattle.base_definite.proofs.base_paths.GivesLaws.{gives_at}
 use Rattle.base_definite.proofs.base_relations.GroupLaws.{given_at, group_of, line_number, line_stands, start_at, value_at, value_is}
 use Rattle.base_definite.proofs.base_relations.ValueLaws.{merged_true}
 use Rattle.base_definite.proofs.BasedLaws.{ends_so}
-use Rattle.base_definite.proofs.CutLaws.{results_in, take_front_of}
+use Rattle.base_definite.proofs.CutLaws.{results_in}
 use Rattle.rewritten_sound.proofs.shape.FunctionLaws.{argument_at}
 
 -- ---- the last line for an instruction gives what it gives

@@ -8,7 +8,7 @@ use Rattle.std.proofs.lemmas.List.{get_or_past, map-append}
 use Rattle.std.proofs.lemmas.List.Sums.{sum_by-append}
 use Rattle.std.proofs.lemmas.Option.{slice_get-map, slice_get_within}
 use Rattle.list_laws.proofs.Contents.{all_at}
-use Rattle.list_laws.proofs.Places.{get_front, get_middle, map_back}
+use Rattle.list_laws.proofs.Places.{get_front, get_middle, map_back, drop_whole}
 use Rattle.sp_ids.specs.declared.ids.BlockId.{BlockId}
 use Rattle.ir_ast.specs.declared.types.Ty.{Ty}
 use Rattle.ir_ast.specs.declared.ops.Callee.{Callee}
@@ -32,7 +32,7 @@ use Rattle.rewriting_forms.specs.Names.{Name, Naming, names_at, names_at_end}
 use Rattle.rewriting_forms.specs.Rewritten.{Piece, expanded, group, inserted_phi, joined_at, phi_operands, piece_inst, plain, renamed, statepoint}
 use Rattle.rewriting_laws.specs.Laws.{IsPlain}
 use Rattle.rewriting_laws.proofs.JumpLemmas.{one_piece}
-use Rattle.rewriting_laws.proofs.LiveLaws.{drop_all, drop_from}
+use Rattle.rewriting_laws.proofs.LiveLaws.{drop_from}
 use Rattle.rewriting_laws.proofs.NameLemmas.{call_or_not, is_none, is_one}
 use Rattle.rewritten_sound.proofs.definite.LineLaws.{line_forth, line_from}
 use Rattle.rewritten_sound.proofs.definite.MadeLaws.{edges_counted, edges_same}
@@ -126,16 +126,6 @@ prefix_passes {A} test (first ∷ xs) k x below at = by (test first) refl k belo
     by false is k below at further = absurd (omega arith)
     by true is zero below at further = let same : first ≡ x = cc in ap test (sym same) ∙ is
     by true is (suc k) below at further = further k (omega arith) at
-
-passes_at : {A : Type 0} (test : A → Bool) (xs : List A) (k : ℕ) (x : A) → list_all test xs ≡ true → slice_get xs k ≡ Some x → test x ≡ true
-passes_at test [] k x all at = absurd cc
-passes_at {A} test (first ∷ xs) k x all at = by (test first) refl k at all (λ j there rest. passes_at test xs j x rest there)
-  where
-    by : (t : Bool) → test first ≡ t → (k : ℕ) → slice_get (first ∷ xs) k ≡ Some x → t && list_all test xs ≡ true
-        → ((j : ℕ) → slice_get xs j ≡ Some x → list_all test xs ≡ true → test x ≡ true) → test x ≡ true
-    by false is k at all further = absurd cc
-    by true is zero at all further = let same : first ≡ x = cc in ap test (sym same) ∙ is
-    by true is (suc k) at all further = further k at all
 
 module _ (content other : ModuleContent) (func : Function) (table : List Operand) (naming : Naming) (room : ℕ) (is : IsNamed content other func table naming room)
     (phis : PhisAreRight func) (before_room : ℕ) (shape : IsPlain func before_room) where
@@ -353,7 +343,7 @@ module _ (content other : ModuleContent) (func : Function) (table : List Operand
       by own_block in_function block is_now last line at ends_here =
           let count = (shape.last b last line at ends_here).0 in
           let all = cut func table naming to b last (omega arith) in
-          let nothing : drop (suc last) (lines_at func b) ≡ [] = ap (λ n. drop n (lines_at func b)) count ∙ drop_all (lines_at func b) in
+          let nothing : drop (suc last) (lines_at func b) ≡ [] = ap (λ n. drop n (lines_at func b)) count ∙ drop_whole (lines_at func b) in
           let one = one_piece func table naming to b last line line.inst.op (call_goes_on line.inst.op ends_here) in
           let whole : pieces func table naming b ≡ all.front ++ plain func table naming to b last line ∷ [] =
           all.whole

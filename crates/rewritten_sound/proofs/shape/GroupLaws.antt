@@ -9,7 +9,7 @@ use Rattle.std.proofs.lemmas.List.{drop-map, length-map}
 use Rattle.std.proofs.lemmas.List.Elements.{All-nil}
 use Rattle.std.proofs.lemmas.Option.{none-some, slice_get_within}
 use Rattle.list_laws.proofs.Contents.{all_from_at}
-use Rattle.list_laws.proofs.Places.{filter_map_back, get_map, get_past, get_some, map_back}
+use Rattle.list_laws.proofs.Places.{filter_map_back, get_map, get_past, get_some, map_back, get_joined}
 use Rattle.sp_ids.specs.declared.ids.ValueId.{ValueId}
 use Rattle.ir_ast.specs.declared.types.Ty.{Ty}
 use Rattle.ir_ast.specs.declared.types.Ty.TheVariants.{Ptr, Token}
@@ -38,15 +38,15 @@ use Rattle.rewriting_forms.specs.Names as forms
 use Rattle.rewriting_forms.specs.Names.{Name, Names, Naming, names_at, names_at_end, own}
 use Rattle.rewriting_forms.specs.Rewritten.{Piece, entries, group, index_of, inserted_phi, is_null, joined_at, piece_inst, plain, relocate_of, renamed, result_of, same_operand, statepoint}
 use Rattle.rewriting_laws.proofs.JumpLemmas.{one_piece}
-use Rattle.rewriting_laws.proofs.LiveLaws.{any_at}
 use Rattle.rewriting_laws.proofs.NameLemmas.{among_filter, call_or_not, found, is_none, is_one}
 use Rattle.rewritten_sound.proofs.definite.LineLaws.{line_from}
 use Rattle.rewritten_sound.proofs.definite.NowLaws.{block_forth, block_now, defines_piece, insts_now, now, number, pieces, text}
-use Rattle.rewritten_sound.proofs.definite.PieceLaws.{PieceFrom, among_at, call_pieces, from_join, from_line, offset, piece_at, piece_from, pieces_for, result_piece, split_place}
+use Rattle.rewritten_sound.proofs.definite.PieceLaws.{PieceFrom, among_at, call_pieces, from_join, from_line, offset, piece_at, piece_from, pieces_for, result_piece}
 use Rattle.rewritten_sound.specs.WellFormed.{Carries, IsWellFormed, LineCarries}
 use Rattle.rewritten_sound.proofs.shape.KeptLaws.{carried_all, used_type}
 use Rattle.rewritten_sound.proofs.shape.NamedLaws.{listed_pointer, pointer_is, text_back}
 use Rattle.rewritten_sound.proofs.shape.PassLaws.{IsNamed, entry_of, index_within, listed_some, named_type, phi_well, plain_carries, plain_well, point_of, point_well, relocate_well, result_well, statepoint_carries, statepoint_well}
+use Rattle.std.proofs.lemmas.Map.Keys.{any_passes_from_place}
 
 pub only_one : {A : Type 0} (x y : A) (i : ℕ) → slice_get (x ∷ []) i ≡ Some y → x ≡ y
 only_one x y zero is = cc
@@ -119,11 +119,11 @@ module _ (content other : ModuleContent) (func : Function) (table : List Operand
 
   pub member_of : (b k i : ℕ) (line : Line) (piece : Piece) → slice_get (group func table naming to b k line) i ≡ Some piece → MemberOf b k i line piece
   member_of b k i line piece at =
-      elim (split_place (result_of func table naming to b k line line.to) (map (relocate_of func table naming to b k) (live_list func table b k)) i piece at) [
+      elim (get_joined (result_of func table naming to b k line line.to) (map (relocate_of func table naming to b k) (live_list func table b k)) i piece at) [
         | inl result ↦ result_of_is b k i line piece line.to refl result
         | inr there ↦
             let before = map_back (relocate_of func table naming to b k) (live_list func table b k) there.0 piece there.2 in
-            is_relocate before.before (any_at (λ (x : ℕ). eqb x before.before) (live_list func table b k) there.0 before.before before.stands (eq-eqb before.before before.before refl)) before.is
+            is_relocate before.before (any_passes_from_place (λ (x : ℕ). eqb x before.before) (live_list func table b k) there.0 before.before before.stands (eq-eqb before.before before.before refl)) before.is
       ]
 
   member_well : (b k i : ℕ) (line : Line) (piece : Piece) (callee : Callee) (types : List Ty) → slice_get (lines_at func b) k ≡ Some line → line.inst.op ≡ ops.Call callee types
@@ -142,7 +142,7 @@ module _ (content other : ModuleContent) (func : Function) (table : List Operand
 
   piece_well : (b j : ℕ) (block : BasicBlock) (piece : Piece) → slice_get func.blocks b ≡ Some block → PieceFrom func table naming to b j piece → IsWellNow (written piece)
   piece_well b j block piece found (from_join v at same) =
-      let parts = among_filter (naming.joins b) v (pointers func) (any_at (λ (x : ℕ). eqb x v) (joined_at func naming b) j v at (eq-eqb v v refl)) in
+      let parts = among_filter (naming.joins b) v (pointers func) (any_passes_from_place (λ (x : ℕ). eqb x v) (joined_at func naming b) j v at (eq-eqb v v refl)) in
       let below = slice_get_within func.blocks b block found in
       subst (λ (p : Piece). IsWellNow (written p)) (sym same) (phi_well content other func table naming room is b v below parts.1)
   piece_well b j block piece found (from_line k i line at place there) = elim (call_or_not line.inst.op) [
@@ -204,7 +204,7 @@ module _ (content other : ModuleContent) (func : Function) (table : List Operand
   join_shape b v place below joins = (
     all_from_at (λ value. slice_get (value_types after) value ≡ Some Token → ⊥) (values_used phi) (λ k w at bad.
         let item = filter_map_back value_in (operands_of phi) w k at in
-        elim (split_place phi.operands [] item.place item.item item.stands) [
+        elim (get_joined phi.operands [] item.place item.item item.stands) [
           | inr there ↦ absurd (let none = there.2 in none-some item.item none)
           | inl here ↦
               let from = map_back (λ (p : ℕ). named (to (names_at_end func table naming p v))) (preds func b) item.place item.item here in
@@ -374,7 +374,7 @@ module _ (content other : ModuleContent) (func : Function) (table : List Operand
   piece_shape : (b j : ℕ) (block : BasicBlock) (piece : Piece) → slice_get func.blocks b ≡ Some block → PieceFrom func table naming to b j piece
       → ShapeOf after (text_place after b j) (written piece) (written piece).op
   piece_shape b j block piece in_function (from_join v at same) =
-      let parts = among_filter (naming.joins b) v (pointers func) (any_at (λ (x : ℕ). eqb x v) (joined_at func naming b) j v at (eq-eqb v v refl)) in
+      let parts = among_filter (naming.joins b) v (pointers func) (any_passes_from_place (λ (x : ℕ). eqb x v) (joined_at func naming b) j v at (eq-eqb v v refl)) in
       let below = slice_get_within func.blocks b block in_function in
       subst (λ (p : Piece). ShapeOf after (text_place after b j) (written p) (written p).op) (sym same) (join_shape b v (text_place after b j) below parts.1)
   piece_shape b j block piece in_function (from_line k i line at place there) = elim (call_or_not line.inst.op) [

@@ -6,7 +6,7 @@ use Rattle.std.proofs.lemmas.List.Elements.{All-append}
 use Rattle.std.proofs.lemmas.Option.{slice_get_within}
 use Rattle.std.proofs.lemmas.Slice.Zip.{AllZip-long}
 use Rattle.list_laws.proofs.Contents.{all_at, all_back, all_from_at, all_front}
-use Rattle.list_laws.proofs.Places.{filter_map_back, map_back}
+use Rattle.list_laws.proofs.Places.{filter_map_back, map_back, get_joined}
 use Rattle.sp_ids.specs.declared.ids.BlockId.{BlockId}
 use Rattle.ir_ast.specs.declared.types.Ty.{Ty}
 use Rattle.ir_ast.specs.declared.ops.Op.{Op}
@@ -24,7 +24,6 @@ use Rattle.ir_ast.specs.Faults.PointerOrder.{orders_pointers}
 use Rattle.ir_ast.specs.Faults.TypeClash.{Fits, IsTyped, asked}
 use Rattle.ir_ast.specs.Faults.UnknownName.{NamesOfModule}
 use Rattle.std.proofs.lemmas.List.{length-map}
-use Rattle.rewritten_sound.proofs.definite.PieceLaws.{split_place}
 use Rattle.rewritten_sound.specs.WellFormed.{Carries, CarriesEntry, IsWellFormed, LineCarries, SeesAlike}
 use Rattle.rewritten_sound.proofs.shape.CarryLaws.{line_carried, typed_carried}
 
@@ -38,7 +37,7 @@ fits_at values (first ∷ given) (ty ∷ types) (suc k) o fits at = fits_at valu
 
 -- where an operand stands that a typed line uses it has a type
 pub used_type : (scope : Scope) (inst : Instruction) → IsTyped scope inst → (k : ℕ) (o : Operand) → slice_get (operands_of inst) k ≡ Some o → (ty : Ty) × Fits scope.values o ty
-used_type scope inst typed k o at = elim (split_place inst.operands (map (λ (entry : Ty × Operand). entry.1) inst.bundle) k o at) [
+used_type scope inst typed k o at = elim (get_joined inst.operands (map (λ (entry : Ty × Operand). entry.1) inst.bundle) k o at) [
   | inl own ↦ fits_at scope.values inst.operands (asked inst.op inst.ty (length inst.operands)) k o typed.operands own
   | inr there ↦
       let before = map_back (λ (entry : Ty × Operand). entry.1) inst.bundle there.0 o there.2 in (

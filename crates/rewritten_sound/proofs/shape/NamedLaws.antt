@@ -7,7 +7,7 @@ use Rattle.std.proofs.lemmas.Bool.{and_from, and_parts, cases_lt, false≢true}
 use Rattle.std.proofs.lemmas.List.{get_or_past, length-append}
 use Rattle.std.proofs.lemmas.Option.{slice_get_within}
 use Rattle.list_laws.proofs.Contents.{contains_image}
-use Rattle.list_laws.proofs.Places.{get_front, get_map, get_some, map_back}
+use Rattle.list_laws.proofs.Places.{get_front, get_map, get_some, map_back, get_joined}
 use Rattle.ir_ast.specs.declared.funcs.Arg.{Arg}
 use Rattle.ir_ast.specs.declared.types.Ty.{Ty}
 use Rattle.ir_ast.specs.declared.types.Ty.TheVariants.{Ptr, Token}
@@ -35,13 +35,14 @@ use Rattle.rewriting_laws.specs.Laws.{IsNumbering, owner_of}
 use Rattle.rewriting_laws.proofs.JumpLemmas.{one_piece}
 use Rattle.rewriting_laws.proofs.NameTests.{tells_names}
 use Rattle.rewriting_laws.proofs.RemovalLaws.{in_web, join_inside, join_pointer, stays_true}
-use Rattle.rewriting_laws.proofs.NameLemmas.{among_filter, call_or_not, filter_among, given_is, is_none, is_one, line_is}
+use Rattle.rewriting_laws.proofs.NameLemmas.{among_filter, call_or_not, filter_among, is_none, is_one, line_is}
 use Rattle.base_laws.proofs.TypeLaws.{type_of_given}
 use Rattle.base_definite.proofs.base_paths.GivesLaws.{defines_gives, stands_one}
 use Rattle.base_definite.proofs.base_relations.GroupLaws.{given_at}
 use Rattle.rewritten_sound.proofs.definite.LineLaws.{defines_given, given_defines, line_from}
 use Rattle.rewritten_sound.proofs.definite.NowLaws.{block_forth, defines_piece, insts_now, now, number, pieces, text}
-use Rattle.rewritten_sound.proofs.definite.PieceLaws.{among_at, call_pieces, offset, piece_at, pieces_for, relocate_at, result_at, result_piece, split_place}
+use Rattle.rewritten_sound.proofs.definite.PieceLaws.{among_at, call_pieces, offset, piece_at, pieces_for, relocate_at, result_at, result_piece}
+use Rattle.object_meaning.proofs.LineLaws.{given_is}
 
 -- a pointer's type
 pointer_type : (ty : Option Ty) → option_map_or is_pointer ty false ≡ true → ty ≡ Some Ptr
@@ -61,7 +62,7 @@ listed_pointer func table b k v listed = (among_filter (λ (x : ℕ). is_live_af
 pub text_back : (blocks : List BasicBlock) (place : ℕ) (inst : Instruction) → slice_get (instructions_of blocks) place ≡ Some inst
     → (b : ℕ) × (k : ℕ) × (block : BasicBlock) × (slice_get blocks b ≡ Some block) × (slice_get block.insts k ≡ Some inst) × (length (instructions_of (take b blocks)) + k ≡ place)
 text_back [] place inst at = absurd cc
-text_back (block ∷ blocks) place inst at = elim (split_place block.insts (instructions_of blocks) place inst at) [
+text_back (block ∷ blocks) place inst at = elim (get_joined block.insts (instructions_of blocks) place inst at) [
   | inl here ↦ (0, place, block, refl, here, omega arith)
   | inr there ↦
       let rest = text_back blocks there.0 inst there.2 in
@@ -306,4 +307,4 @@ module _ (func : Function) (table : List Operand) where
   least_in_text b v below = left_in_text ((full_naming func table).front b v) (front_in_text (suc (length func.blocks)) b v below)
 
   pub naming_in_text : (b v : ℕ) → v < length (definitions_of func) → InText func table (naming_of func table) ((naming_of func table).front b v)
-  naming_in_text b v below = front_in_text (suc (length func.blocks)) b v below
+  naming_in_text = least_in_text

@@ -10,7 +10,7 @@ use Rattle.std.proofs.lemmas.List.Elements.{All-append, All-nil}
 use Rattle.std.proofs.lemmas.List.FromFn.{length-range_with_len}
 use Rattle.std.proofs.lemmas.Option.{none-some, slice_get_within}
 use Rattle.list_laws.proofs.Contents.{all_at, all_back, all_from_at, all_front}
-use Rattle.list_laws.proofs.Places.{filter_map_back, filter_map_forth, get_front, get_map, get_past, map_back}
+use Rattle.list_laws.proofs.Places.{filter_map_back, filter_map_forth, get_front, get_map, get_past, map_back, take_front_of, get_joined}
 use Rattle.sp_ids.specs.declared.ids.BlockId.{BlockId}
 use Rattle.sp_ids.specs.declared.ids.ValueId.{ValueId}
 use Rattle.ir_ast.specs.declared.types.Ty.{Ty}
@@ -47,16 +47,15 @@ use Rattle.rewriting_forms.specs.Names.{Name, Names, Naming, names_at, names_at_
 use Rattle.rewriting_forms.specs.Rewritten.{entries, index_of, inserted_phi, is_null, phi_operands, piece_inst, plain, relocate_of, renamed, same_operand, statepoint}
 use Rattle.rewriting_laws.specs.Laws.{Fits as NamingFits, IsNumbering, Reached, at_first, over, owner_of}
 use Rattle.rewriting_laws.specs.Laws as laws
-use Rattle.rewriting_laws.proofs.LiveLaws.{any_at}
 use Rattle.rewriting_laws.proofs.NameLemmas.{names_value}
 use Rattle.rewriting_laws.proofs.VersionLaws.{edge_within}
-use Rattle.base_definite.proofs.CutLaws.{take_front_of}
 use Rattle.rewritten_sound.proofs.definite.LineLaws.{LineFrom, line_from}
 use Rattle.rewritten_sound.proofs.definite.NowLaws.{now, number, text}
-use Rattle.rewritten_sound.proofs.definite.PieceLaws.{result_piece, split_place}
+use Rattle.rewritten_sound.proofs.definite.PieceLaws.{result_piece}
 use Rattle.rewritten_sound.specs.WellFormed.{Carries, CarriesEntry, IsWellFormed, LineCarries}
 use Rattle.rewritten_sound.proofs.shape.KeptLaws.{AreAlike, values_known, well_carried}
 use Rattle.rewritten_sound.proofs.shape.NamedLaws.{InText, a_token, listed_pointer, name_type, names_in_text, owner_type, pointer_is}
+use Rattle.std.proofs.lemmas.Map.Keys.{any_passes_from_place}
 
 -- ---- lists
 
@@ -121,11 +120,11 @@ list_few func table b k =
 -- the entries of a live list are pointers
 module _ (func : Function) (table : List Operand) where
   pub entry_of : (b k place : ℕ) (o : Operand) → slice_get (entries func table b k) place ≡ Some o → (o ≡ operands.Null) ⊎ ((v : ℕ) × (o ≡ named v) × (among v (live_list func table b k) ≡ true))
-  entry_of b k place o at = elim (split_place _ (map (λ (v : ℕ). named v) (live_list func table b k)) place o at) [
+  entry_of b k place o at = elim (get_joined _ (map (λ (v : ℕ). named v) (live_list func table b k)) place o at) [
     | inl null ↦ inl (first_is _ place null)
     | inr there ↦
         let before = map_back (λ (v : ℕ). named v) (live_list func table b k) there.0 o there.2 in
-        inr (before.before, before.is, any_at (λ (x : ℕ). eqb x before.before) (live_list func table b k) there.0 before.before before.stands (eq-eqb before.before before.before refl))
+        inr (before.before, before.is, any_passes_from_place (λ (x : ℕ). eqb x before.before) (live_list func table b k) there.0 before.before before.stands (eq-eqb before.before before.before refl))
   ]
     where
       first_is : (t : Bool) (place : ℕ) → slice_get (if t then operands.Null ∷ [] else []) place ≡ Some o → o ≡ operands.Null
@@ -218,9 +217,9 @@ module _ (content : ModuleContent) (func : Function) (table : List Operand) (b k
 
   point_item : (h : Operand → Option ℕ) → h operands.Null ≡ None → ((v : ValueId) → h (operands.Value v) ≡ None) → (place : ℕ) (o : Operand) → slice_get (operands_of point) place ≡ Some o
       → (h o ≡ None) ⊎ ((j : ℕ) × (slice_get (operands_of line.inst) j ≡ Some o))
-  point_item h null value place o at = elim (split_place (line.inst.operands ++ entries func table b k) (map (λ (entry : Ty × Operand). entry.1) line.inst.bundle) place o at) [
+  point_item h null value place o at = elim (get_joined (line.inst.operands ++ entries func table b k) (map (λ (entry : Ty × Operand). entry.1) line.inst.bundle) place o at) [
     | inr there ↦ inr (length line.inst.operands + there.0, get_past line.inst.operands (map (λ (entry : Ty × Operand). entry.1) line.inst.bundle) there.0 ∙ there.2)
-    | inl first ↦ elim (split_place line.inst.operands (entries func table b k) place o first) [
+    | inl first ↦ elim (get_joined line.inst.operands (entries func table b k) place o first) [
       | inl here ↦ inr (place, get_front line.inst.operands (map (λ (entry : Ty × Operand). entry.1) line.inst.bundle) place o here)
       | inr entry ↦ elim (entry_of func table b k entry.0 o entry.2) [
         | inl is ↦ inl (ap h is ∙ null)
@@ -486,7 +485,7 @@ module _ (content other : ModuleContent) (func : Function) (table : List Operand
           values = values_known other (now func table naming) phi typed;
           blocks = all_from_at (λ (label : BlockId). label.0 < length (now func table naming).blocks) (preds_of (graph_of func) b) (λ place label at.
               let pred = get_map (λ (l : BlockId). l.0) (preds_of (graph_of func) b) place label at in
-              let within = edge_within func label.0 b (any_at (λ (x : ℕ). eqb x label.0) (preds func b) place label.0 pred (eq-eqb label.0 label.0 refl)) in
+              let within = edge_within func label.0 b (any_passes_from_place (λ (x : ℕ). eqb x label.0) (preds func b) place label.0 pred (eq-eqb label.0 label.0 refl)) in
               let same = (is.alike).blocks in
               omega (arith, within, same));
         };
@@ -509,7 +508,7 @@ module _ (content other : ModuleContent) (func : Function) (table : List Operand
           ap is_value from.is)
 
       phi_items : (P : ℕ → Type 0) (h : Operand → Option ℕ) → ((value : ValueId) → h (operands.Value value) ≡ None) → All P (filter_map h (operands_of phi))
-      phi_items P h value = no_items P h (operands_of phi) (λ place o at. elim (split_place phi.operands [] place o at) [
+      phi_items P h value = no_items P h (operands_of phi) (λ place o at. elim (get_joined phi.operands [] place o at) [
         | inl own_operand ↦
             let from = map_back (λ (p : ℕ). named (to (names_at_end func table naming p v))) (preds func b) place o own_operand in
             ap h from.is ∙ value (record { 0 = to (names_at_end func table naming from.before v) })

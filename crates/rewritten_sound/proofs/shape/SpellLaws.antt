@@ -38,6 +38,7 @@ use Rattle.base_definite.proofs.base_paths.GivesLaws.{defines_gives}
 use Rattle.rewritten_sound.proofs.definite.LineLaws.{given_defines}
 use Rattle.rewritten_sound.specs.WellFormed.{IsGroupName}
 use Rattle.rewritten_sound.proofs.definite.NowLaws.{insts_now, now, number, pieces, text}
+use Rattle.list_laws.proofs.Ranges.{range_back}
 
 abbrev has_result : Instruction → Bool
 has_result inst = is_some inst.result
@@ -60,13 +61,6 @@ one_text text (Some name) inst ps rest = ap (λ names. text name ∷ names) rest
 piece_texts : (text : Name → List ℕ) (ps : List Piece) → given_names (map (piece_inst text) ps) ≡ map text (piece_names ps)
 piece_texts text [] = refl
 piece_texts text (p ∷ ps) = one_text text p.name p.inst ps (piece_texts text ps)
-
-range_at : (from count i x : ℕ) → slice_get (range_with_len from count) i ≡ Some x → x ≡ from + i
-range_at from zero i x is = absurd cc
-range_at from (suc count) zero x is =
-    let e : from ≡ x = cc in
-    omega arith
-range_at from (suc count) (suc i) x is = let h = range_at (from + 1) count i x is in omega (arith, h)
 
 args_text : (all : List Definition) (from : ℕ) (args : List Arg) → ((i : ℕ) (arg : Arg) → slice_get args i ≡ Some arg → slice_get all (from + i) ≡ Some (argument arg))
     → map definition_name (map argument args) ≡ map (λ v. option_map_or definition_name (slice_get all v) []) (range_with_len from (length args))
@@ -161,7 +155,7 @@ module _ (func : Function) (table : List Operand) (naming : Naming) where
   arguments_known : All Known (map own (range_with_len 0 (length func.args)))
   arguments_known = all_from_at Known (map own (range_with_len 0 (length func.args))) (λ place name at.
       let before = map_back own (range_with_len 0 (length func.args)) place name at in
-      let is_place = range_at 0 (length func.args) place before.before before.stands in
+      let is_place = range_back 0 (length func.args) place before.before before.stands in
       let within = slice_get_within (range_with_len 0 (length func.args)) place before.before before.stands in
       let long = length-range_with_len 0 (length func.args) in
       let args = length-map func.args argument in

@@ -22,21 +22,14 @@ use Rattle.machine_meaning.specs.Words.{worded_operand}
 use Rattle.moves_unseen.specs.Entries.{AreArguments}
 use Rattle.moves_unseen.specs.Frames.{AreWords}
 use Rattle.moves_unseen.proofs.ValueLaws.{base_of_pair, same_number}
+use Rattle.moves_unseen.proofs.SelectSteps.{worded_value}
 
 -- ---- words
-
--- an operand on words is a word
-pub word_of_operand : (words : List ℕ) (from : Operand) → value (map number words) (worded_operand from) ≡ number (word_in words from)
-word_of_operand words (operands.Value at) =
-    let same = get_or-map number words at.0 0 in same ∙ sym (ap (λ (d : Datum). number (number_in d)) same)
-word_of_operand words (operands.Int literal) = refl
-word_of_operand words operands.Null = refl
-word_of_operand words (operands.Fun called) = refl
 
 words_of_operands : (words : List ℕ) (from : List Operand) → map (value (map number words)) (map worded_operand from) ≡ map number (map (word_in words) from)
 words_of_operands words [] = refl
 words_of_operands words (first ∷ from) =
-    ap (λ (d : Datum). d ∷ map (value (map number words)) (map worded_operand from)) (word_of_operand words first)
+    ap (λ (d : Datum). d ∷ map (value (map number words)) (map worded_operand from)) (worded_value words first)
     ∙ ap (λ (more : List Datum). number (word_in words first) ∷ more) (words_of_operands words from)
 
 pub words_of_arguments : (words : List ℕ) (count : ℕ) (from : List Operand)
@@ -96,7 +89,7 @@ second_taken (first ∷ second ∷ given) = refl
 pub second_word : (words : List ℕ) (given : List Operand) → operand (map number words) (take 2 (map worded_operand given)) 1 ≡ number (word_in words (operand_at given 1))
 second_word words [] = refl
 second_word words (first ∷ []) = refl
-second_word words (first ∷ second ∷ given) = word_of_operand words second
+second_word words (first ∷ second ∷ given) = worded_value words second
 
 pub first_worded : (given : List Operand) (called : Operand) → slice_get given 0 ≡ Some called → slice_get (take 2 (map worded_operand given)) 0 ≡ Some (worded_operand called)
 first_worded [] called is = cc

@@ -15,12 +15,6 @@ zip_set R (first ∷ xs) [] at x y all one = absurd all
 zip_set R (first ∷ xs) (other ∷ ys) zero x y all one = (one, all.1)
 zip_set R (first ∷ xs) (other ∷ ys) (suc at) x y all one = (all.0, zip_set R xs ys at x y all.1 one)
 
-pub zip_end : {A B : Type 0} (R : A → B → Type 0) (xs : List A) (ys : List B) (x : A) (y : B) → AllZip R xs ys → R x y → AllZip R (xs ++ x ∷ []) (ys ++ y ∷ [])
-zip_end R [] [] x y all one = (one, tt)
-zip_end R [] (other ∷ ys) x y all one = absurd all
-zip_end R (first ∷ xs) [] x y all one = absurd all
-zip_end R (first ∷ xs) (other ∷ ys) x y all one = (all.0, zip_end R xs ys x y all.1 one)
-
 pub frame_count : (R : Frame → FrameWords → Type 0) (frames : List Frame) (helds : List FrameWords) → AllZip R frames helds → length (worded_frames frames helds) ≡ length frames
 frame_count R [] [] all = refl
 frame_count R [] (held ∷ helds) all = absurd all

@@ -54,7 +54,8 @@ use Rattle.moves_unseen.proofs.ValueLaws.{base_of_pair, value_at}
 use Rattle.runs_unseen.specs.WaitingStates.{IsWaitingState, StatesWait, at_statepoint, frames_of_all, words_of_all}
 use Rattle.runs_unseen.proofs.calls_unseen.Arguments.{first_taken, first_worded, second_taken, second_word}
 use Rattle.runs_unseen.proofs.calls_unseen.StatepointLines.{IsDefinedAs, calls_by, defined_as, fits, own_passed}
-use Rattle.runs_unseen.proofs.calls_unseen.TaskLists.{stacks_end, stacks_set, task_count, tasks_end, tasks_set, zip_end}
+use Rattle.runs_unseen.proofs.calls_unseen.TaskLists.{stacks_end, stacks_set, task_count, tasks_end, tasks_set}
+use Rattle.list_laws.proofs.Zips.{zip_pushed}
 
 -- the second of two operands, a pointer, is one that is passed
 second_passed : (types more : List Ty) (given : List Operand) → AllZip (Fits types) given (Void ∷ Ptr ∷ more) → Contains (pointers_of (Void ∷ Ptr ∷ []) given) (operand_at given 1)
@@ -220,7 +221,7 @@ module _ (states_wait : StatesWait) (content : ModuleContent) (sound : IsSound c
     settled = related.settled;
     running = frame_entered content called.0 callee.func callee.found (go plan) bound state.objects extra.heap.stands (argument ∷ []) (word ∷ []) arguments;
     below = tt;
-    tasks = zip_end AreFrames (frames_of_all state) (words_of_all state waiting) [] [] waits_so.waiting.all tt;
+    tasks = zip_pushed AreFrames (frames_of_all state) (words_of_all state waiting) [] [] waits_so.waiting.all tt;
     await = await_there;
   }
 

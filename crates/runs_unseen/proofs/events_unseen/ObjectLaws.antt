@@ -19,6 +19,7 @@ use Rattle.moves_unseen.specs.Objects.{IsBase}
 use Rattle.moves_unseen.specs.Waits.{IsAnswer, IsSound}
 use Rattle.moves_unseen.proofs.AllocLaws.{addr_before, in_heap_before}
 use Rattle.runs_unseen.proofs.frames_spilled.ResultLaws.{result_type}
+use Rattle.list_laws.proofs.Zips.{zip_weaker}
 
 -- ---- sizes
 
@@ -63,15 +64,9 @@ waits_more content stands new frame held waiting = record {
   bundle = waiting.bundle;
 }
 
-pub zip_each : {A B : Type 0} (R Q : A → B → Type 0) (xs : List A) (ys : List B) → ((x : A) (y : B) → R x y → Q x y) → AllZip R xs ys → AllZip Q xs ys
-zip_each R Q [] [] each all = tt
-zip_each R Q [] (y ∷ ys) each all = absurd all
-zip_each R Q (x ∷ xs) [] each all = absurd all
-zip_each R Q (x ∷ xs) (y ∷ ys) each all = (each x y all.0, zip_each R Q xs ys each all.1)
-
 pub all_more : (content : ModuleContent) (stands : List Stand) (new : Stand) (frames : List Frame) (helds : List FrameWords) → AllZip (IsWaiting content stands) frames helds
     → AllZip (IsWaiting content (stands ++ new ∷ [])) frames helds
-all_more content stands new frames helds all = zip_each (IsWaiting content stands) (IsWaiting content (stands ++ new ∷ [])) frames helds (waits_more content stands new) all
+all_more content stands new frames helds all = zip_weaker (IsWaiting content stands) (IsWaiting content (stands ++ new ∷ [])) frames helds (waits_more content stands new) all
 
 -- ---- the answer
 

@@ -59,9 +59,10 @@ use Rattle.moves_unseen.proofs.LineTypes.{lines_are_typed}
 use Rattle.moves_unseen.proofs.StandLaws.{line_here}
 use Rattle.moves_unseen.proofs.ValueLaws.{same_number, value_at, word_at}
 use Rattle.runs_unseen.proofs.events_unseen.EventLaws.{AllWait}
-use Rattle.runs_unseen.proofs.events_unseen.ObjectLaws.{all_more, base_answers, new_base, sizes_same, waits_more, zip_each}
+use Rattle.runs_unseen.proofs.events_unseen.ObjectLaws.{all_more, base_answers, new_base, sizes_same, waits_more}
 use Rattle.runs_unseen.proofs.events_unseen.PollSteps.{event_is, here, made, statepoint_at, there}
 use Rattle.runs_unseen.proofs.events_unseen.SwitchLaws.{goes_on}
+use Rattle.list_laws.proofs.Zips.{zip_weaker}
 
 -- ---- what the module says of the line
 
@@ -174,7 +175,7 @@ module _ (content : ModuleContent) (sound : IsSound content) (plan : List PlanLi
       settled = refl;
       running = waits_more content stands new state.running extra.running all.running;
       below = all_more content stands new state.below extra.below all.below;
-      tasks = zip_each (λ frames held. AllZip (IsWaiting content stands) frames held) (λ frames held. AllZip (IsWaiting content (stands ++ new ∷ [])) frames held) state.tasks extra.tasks
+      tasks = zip_weaker (λ frames held. AllZip (IsWaiting content stands) frames held) (λ frames held. AllZip (IsWaiting content (stands ++ new ∷ [])) frames held) state.tasks extra.tasks
           (all_more content stands new) all.tasks;
       await = all.await;
     }

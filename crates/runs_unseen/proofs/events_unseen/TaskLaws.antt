@@ -75,9 +75,3 @@ stack_at machinery (first ∷ tasks) [] place frames held at there = absurd (non
 stack_at machinery (first ∷ tasks) (one ∷ helds) zero frames held at there =
     ap (λ (f : List Frame). stack_of machinery f one) (same_Some first frames at) ∙ ap (stack_of machinery frames) (same_Some one held there)
 stack_at machinery (first ∷ tasks) (one ∷ helds) (suc place) frames held at there = stack_at machinery tasks helds place frames held at there
-
-pub first_same : {A : Type 0} (x y : A) (xs ys : List A) → x ∷ xs ≡ y ∷ ys → x ≡ y
-first_same x y xs ys is = cc
-
-pub rest_same : {A : Type 0} (x y : A) (xs ys : List A) → x ∷ xs ≡ y ∷ ys → xs ≡ ys
-rest_same x y xs ys is = cc

@@ -3,7 +3,7 @@ use Rattle.std.proofs.Common.{◌≡◌, ℕ, zero, suc, ◌+◌, ◌-◌, ◌<�
 use Rattle.std.specs.Prelude.{nat_lt, slice_get, slice_index, is_some, if◌then◌else◌}
 use Rattle.std.specs.List.{list_any}
 use Rattle.std.specs.Option.{option_map_or}
-use Rattle.std.proofs.lemmas.Bool.{cases_Bool, eqb-true, true≢false}
+use Rattle.std.proofs.lemmas.Bool.{cases_Bool, eqb-true, true≢false, or_cases}
 use Rattle.std.proofs.lemmas.List.Sums.{prefix_len_passes}
 use Rattle.std.proofs.lemmas.Option.{none-some, same_Some}
 use Rattle.ir_ast.specs.declared.ops.Operand.{Operand}
@@ -17,26 +17,17 @@ use Rattle.object_meaning.specs.TargetRuns.{plain_lines}
 use Rattle.pair_facts.specs.Lines.{gives, group_in, head_at, is_given, line_before, line_in, no_line, operand_at}
 use Rattle.pair_facts.specs.Pairs.{Pairs, after, after_group}
 use Rattle.pair_facts.specs.Paths.{pairs_at}
-use Rattle.pair_facts.proofs.BoolLemmas.{either}
-use Rattle.pair_facts.proofs.GroupLaws.{gives_is, members_head}
-use Rattle.moves_unseen.proofs.JumpLaws.{taken_lower}
+use Rattle.pair_facts.proofs.GroupLaws.{gives_is, members_head, or_dropped}
 use Rattle.moves_unseen.proofs.PhiLaws.{picked, picked_is, put_each}
-use Rattle.moves_unseen.proofs.StandLaws.{line_is, no_head}
+use Rattle.object_meaning.proofs.LineLaws.{line_is}
+use Rattle.pair_facts.proofs.OwnLaws.{head_none}
+use Rattle.list_laws.proofs.Places.{take_back, drop_nil}
 
 -- ---- lists
 
-or_dropped : {A : Type 0} (xs : List A) (count place : ℕ) (none : A) → get_or (drop count xs) place none ≡ get_or xs (count + place) none
-or_dropped xs zero place none = let same : 0 + place ≡ place = omega arith in rw same refl
-or_dropped [] (suc count) place none = refl
-or_dropped (x ∷ xs) (suc count) place none = let same : suc count + place ≡ suc (count + place) = omega arith in rw same (or_dropped xs count place none)
-
-drop_none : {A : Type 0} (count : ℕ) → drop {A = A} count [] ≡ []
-drop_none zero = refl
-drop_none (suc count) = refl
-
 dropped_twice : {A : Type 0} (xs : List A) (first second : ℕ) → drop second (drop first xs) ≡ drop (first + second) xs
 dropped_twice xs zero second = let same : 0 + second ≡ second = omega arith in rw same refl
-dropped_twice [] (suc first) second = drop_none second ∙ sym (drop_none (suc first + second))
+dropped_twice [] (suc first) second = drop_nil second ∙ sym (drop_nil (suc first + second))
 dropped_twice (x ∷ xs) (suc first) second = let same : suc first + second ≡ suc (first + second) = omega arith in rw same (dropped_twice xs first second)
 
 pub front_index : (front below : List ℕ) (place : ℕ) → place < length front → slice_index (front ++ below) place ≡ slice_index front place
@@ -58,7 +49,7 @@ pub record IsFound {A : Type 0} (test : A → Bool) (xs : List A) : Type 0 where
 
 pub found_in : {A : Type 0} (test : A → Bool) (xs : List A) → list_any test xs ≡ true → IsFound test xs
 found_in test [] some = absurd (true≢false (sym some))
-found_in test (x ∷ xs) some = elim (either (test x) (list_any test xs) some) [
+found_in test (x ∷ xs) some = elim (or_cases (test x) (list_any test xs) some) [
   | inl here ↦ record { place = 0; item = x; is = refl; passes = here }
   | inr later ↦ (let more = found_in test xs later in record { place = suc more.place; item = more.item; is = more.is; passes = more.passes })
 ]
@@ -100,7 +91,7 @@ picked_at made next (inst ∷ insts) (suc count) zero line value old is given =
     ap (λ (b : Bool). if b then made (numbered next inst) else picked made (take count (plain_lines (following next inst) insts)) value old) (ap (λ (l : Line). gives l value) same ∙ gives_is line value given)
     ∙ ap made same
 picked_at made next (inst ∷ insts) (suc count) (suc place) line value old is given =
-    let lower = taken_lower count (plain_lines (following next inst) insts) place line is in
+    let lower = take_back count (plain_lines (following next inst) insts) place line is in
     ap (λ (b : Bool). if b then made (numbered next inst) else picked made (take count (plain_lines (following next inst) insts)) value old)
     (not_first next value (is_some inst.result) (given_above (following next inst) insts place line value lower.1 given))
     ∙ picked_at made (following next inst) insts count place line value old is given
@@ -154,7 +145,7 @@ module _ (lines : List Line) (head : ℕ) (statepoint : is_statepoint (line_in l
   pub last_is : (line : Line) → line_before lines (suc (head + group_length tail)) ≡ Some line → is_statepoint line.inst.op ≡ false → is_member line.inst.op ≡ false → ⊥
   last_is line before one two =
       let here = line_is lines (head + group_length tail) line before in
-      none-some head (sym (no_head lines (head + group_length tail) (ap (λ (l : Line). is_statepoint l.inst.op) here ∙ one) (ap (λ (l : Line). is_member l.inst.op) here ∙ two)) ∙ last_head)
+      none-some head (sym (head_none lines (head + group_length tail) (ap (λ (l : Line). is_statepoint l.inst.op) here ∙ one) (ap (λ (l : Line). is_member l.inst.op) here ∙ two)) ∙ last_head)
 
   pub rest_is : drop (group_length tail) tail ≡ drop (suc (head + group_length tail)) lines
   rest_is = dropped_twice lines (suc head) (group_length tail) ∙ ap (λ (count : ℕ). drop count lines) (let same : suc head + group_length tail ≡ suc (head + group_length tail) = omega arith in same)

@@ -43,13 +43,14 @@ use Rattle.moves_unseen.proofs.LiteralLaws.{literals_bare}
 use Rattle.moves_unseen.proofs.PassLaws.{put_words}
 use Rattle.moves_unseen.proofs.PhiLaws.{length_each, picked, put_each}
 use Rattle.moves_unseen.proofs.RegisterLaws.{word_of_value}
-use Rattle.moves_unseen.proofs.SelectSteps.{is_value_named}
-use Rattle.moves_unseen.proofs.StandLaws.{line_is}
 use Rattle.moves_unseen.proofs.ValueLaws.{pair_of_base, value_at}
 use Rattle.moves_unseen.proofs.VerifiedLaws.{pair_stands}
 use Rattle.runs_unseen.proofs.frames_spilled.GroupSlots.{entry_pointer, member_at, pair_of}
 use Rattle.runs_unseen.proofs.frames_spilled.RoomLaws.{entries_fit}
 use Rattle.runs_unseen.proofs.frames_resumed.GroupLaws.{behind_group, found_in, front_index, group_picks, group_put, last_is, past_operands, rest_is}
+use Rattle.object_meaning.proofs.LineLaws.{line_is}
+use Rattle.moves_unseen.proofs.JumpSteps.{pair_as}
+use Rattle.pair_facts.proofs.OwnLaws.{named_is}
 
 -- ---- what a member makes
 
@@ -132,15 +133,6 @@ dropped_first : (lines : List Line) (place : ℕ) (line : Line) → slice_get li
 dropped_first [] place line is = absurd (none-some line is)
 dropped_first (first ∷ lines) zero line is = ap (λ (l : Line). l ∷ lines) (same_Some first line is)
 dropped_first (first ∷ lines) (suc place) line is = dropped_first lines place line is
-
-pair_as : (stands : List Stand) (derived other_derived base other_base : Pointer) (word other_word base_word other_base_word : ℕ)
-    → derived ≡ other_derived → base ≡ other_base → word ≡ other_word → base_word ≡ other_base_word
-    → IsPair stands derived base word base_word → IsPair stands other_derived other_base other_word other_base_word
-pair_as stands derived other_derived base other_base word other_word base_word other_base_word one two three four pair =
-    subst (λ (d : Pointer). IsPair stands d other_base other_word other_base_word) one
-    (subst (λ (b : Pointer). IsPair stands derived b other_word other_base_word) two
-    (subst (λ (w : ℕ). IsPair stands derived base w other_base_word) three
-    (subst (λ (w : ℕ). IsPair stands derived base word w) four pair)))
 
 null_pair : (stands : List Stand) → IsPair stands null null 0 0
 null_pair stands = record { heap = record { object = omega arith; offset = omega arith }; same = refl; first = refl; derived_is = refl; base_is = refl }
@@ -375,7 +367,7 @@ module _ (content : ModuleContent) (sound : IsSound content) (objects : List Obj
       → member_pairs (entries_at lines head) group at.0 member op (Named base) ≡ true → IsNewPair (operands.Value at) base
   member_pair place member at base is given ops.GcResult op_is stood =
       let parts = and_parts (is_pointer member.inst.ty) (own_pairs at.0 (Named base)) stood in
-      result_pair place member at base is given op_is parts.0 (is_value_named at.0 base parts.1)
+      result_pair place member at base is given op_is parts.0 (named_is at.0 base parts.1)
   member_pair place member at base is given ops.GcRelocate op_is stood = relocate_pair place member at base is given op_is stood
   member_pair place member at base is given op op_is stood = absurd cc
 

@@ -16,19 +16,14 @@ use Rattle.pair_facts.specs.Uses.{Relocates}
 use Rattle.pair_facts.proofs.GroupLaws.{stands_member}
 use Rattle.machine_meaning.specs.Relations.{word_in}
 use Rattle.moves_unseen.specs.Frames.{group_pairs, relocated_pair}
-use Rattle.moves_unseen.proofs.JumpLaws.{taken_lower}
+use Rattle.list_laws.proofs.Places.{get_dropped, take_back}
 
 -- ---- pairs
-
-dropped_at : {A : Type 0} (xs : List A) (count place : ℕ) → slice_get (drop count xs) place ≡ slice_get xs (count + place)
-dropped_at xs zero place = let same : 0 + place ≡ place = omega arith in rw same refl
-dropped_at [] (suc count) place = refl
-dropped_at (x ∷ xs) (suc count) place = let same : suc count + place ≡ suc (count + place) = omega arith in rw same (dropped_at xs count place)
 
 -- a member stands behind its statepoint
 pub member_at : (lines : List Line) (head place : ℕ) (line : Line) → slice_get (group_in lines head) place ≡ Some line → slice_get lines (suc head + place) ≡ Some line
 member_at lines head place line is =
-    sym (dropped_at lines (suc head) place) ∙ (taken_lower (group_length (drop (suc head) lines)) (drop (suc head) lines) place line is).1
+    sym (get_dropped lines (suc head) place) ∙ (take_back (group_length (drop (suc head) lines)) (drop (suc head) lines) place line is).1
 
 abbrev pub pair_of : Line → Pair
 pair_of line = record { base = base_index line; derived = derived_index line }

@@ -19,9 +19,9 @@ use Rattle.object_meaning.specs.Frames.{is_member}
 use Rattle.object_meaning.specs.Lines.{Line}
 use Rattle.pair_facts.specs.Lines.{group_in, lines_at}
 use Rattle.pair_facts.proofs.GroupLaws.{members_between, stands_member}
-use Rattle.moves_unseen.proofs.StandLaws.{line_is}
 use Rattle.runs_unseen.proofs.frames_spilled.GroupSlots.{member_at}
 use Rattle.runs_unseen.proofs.frames_spilled.TextLaws.{line_in_text}
+use Rattle.object_meaning.proofs.LineLaws.{line_is}
 
 -- a part of a group is no statepoint
 apart : (op : Op) → is_member op ≡ true → is_statepoint op ≡ true → ⊥

@@ -21,11 +21,7 @@ use Rattle.object_meaning.specs.Lines.{Line, following, insts_in, numbered, regi
 use Rattle.object_meaning.specs.TargetRuns.{plain_lines}
 use Rattle.pair_facts.specs.Lines.{lines_at}
 use Rattle.moves_unseen.specs.Frames.{AreKept}
-
-inst_of_line : (next : ℕ) (insts : List Instruction) (place : ℕ) (line : Line) → slice_get (plain_lines next insts) place ≡ Some line → slice_get insts place ≡ Some line.inst
-inst_of_line next [] place line is = absurd (none-some line is)
-inst_of_line next (inst ∷ insts) zero line is = ap (λ (l : Line). Some l.inst) (same_Some (numbered next inst) line is)
-inst_of_line next (inst ∷ insts) (suc place) line is = inst_of_line (following next inst) insts place line is
+use Rattle.object_meaning.proofs.LineLaws.{plain_back}
 
 in_text : (blocks : List BasicBlock) (number place : ℕ) (inst : Instruction)
     → slice_get (option_map_or (λ (block : BasicBlock). block.insts) (slice_get blocks number) []) place ≡ Some inst
@@ -45,7 +41,7 @@ in_text (block ∷ blocks) (suc number) place inst is =
 pub line_in_text : (func : Function) (block place : ℕ) (line : Line) → slice_get (lines_at func block) place ≡ Some line
     → slice_get (instructions_of func.blocks) (text_place func block place) ≡ Some line.inst
 line_in_text func block place line is =
-    in_text func.blocks block place line.inst (inst_of_line (slice_index (registers_of func) block) (insts_in func block) place line is)
+    in_text func.blocks block place line.inst (plain_back (slice_index (registers_of func) block) (insts_in func block) place line is)
 
 -- and it has no bundle, where no function has one
 pub no_bundle : (content : ModuleContent) → All HasNoBundle content.funcs → (number : ℕ) (func : Function) → slice_get content.funcs number ≡ Some func

@@ -26,12 +26,13 @@ use Rattle.machine_meaning.specs.Relations.{AreSlots, IsPair, word_in}
 use Rattle.moves_unseen.specs.Frames.{FrameWords, IsRunning, IsWaiting, group_pairs}
 use Rattle.moves_unseen.specs.Waits.{IsSound, spilled_words}
 use Rattle.moves_unseen.proofs.LiteralLaws.{literals_bare}
-use Rattle.moves_unseen.proofs.StandLaws.{line_here, line_is}
+use Rattle.moves_unseen.proofs.StandLaws.{line_here}
 use Rattle.moves_unseen.proofs.VerifiedLaws.{pair_stands}
 use Rattle.runs_unseen.proofs.frames_spilled.GroupSlots.{IsPairOf, entry_pointer, entry_word, pair_in_group}
 use Rattle.runs_unseen.proofs.frames_spilled.RoomLaws.{entries_fit}
 use Rattle.runs_unseen.proofs.frames_spilled.SpillLaws.{length_over}
 use Rattle.runs_unseen.proofs.frames_spilled.TextLaws.{no_bundle, nothing_kept}
+use Rattle.object_meaning.proofs.LineLaws.{line_is}
 
 module _ (content : ModuleContent) (sound : IsSound content) (objects : List Object) (stands : List Stand) (frame : Frame) (held : FrameWords)
     (running : IsRunning content objects stands frame held) (line : Line) (rest : List Line) (is : frame.rest ≡ line ∷ rest)

@@ -30,7 +30,8 @@ use Rattle.moves_unseen.specs.Frames.{IsRunning}
 use Rattle.moves_unseen.specs.States.{Extra, IsRelated, machine_of}
 use Rattle.moves_unseen.specs.Steps.{StepFollows, both_go}
 use Rattle.moves_unseen.specs.Waits.{IsSkipped, phi, relocate, result}
-use Rattle.moves_unseen.proofs.StandLaws.{line_here, line_is}
+use Rattle.moves_unseen.proofs.StandLaws.{line_here, rest_of_rest, the_line}
+use Rattle.object_meaning.proofs.LineLaws.{line_is}
 
 -- ---- lines that are stepped over
 
@@ -120,15 +121,6 @@ fewer_behind lines front place line here due derived base stood = by (head_at li
 
 -- ---- frames and states
 
-rest_behind : (lines : List Line) (place : ℕ) (line : Line) (rest : List Line) → drop place lines ≡ line ∷ rest → rest ≡ drop (suc place) lines
-rest_behind [] zero line rest is = cc
-rest_behind [] (suc place) line rest is = cc
-rest_behind (first ∷ lines) zero line rest is = let same : lines ≡ rest = cc in sym same
-rest_behind (first ∷ lines) (suc place) line rest is = rest_behind lines place line rest is
-
-the_line : (one other : Line) (found : Option Line) → found ≡ Some one → found ≡ Some other → one ≡ other
-the_line one other found first second = cc
-
 module _ (content : ModuleContent) (machinery : Machinery) (setting : Setting) (state : State) (extra : Extra) (related : IsRelated content state extra)
     (line : Line) (rest : List Line) (is : state.running.rest ≡ line ∷ rest) (due : IsSkipped line.inst.op) where
   abbrev lines : List Line
@@ -164,7 +156,7 @@ module _ (content : ModuleContent) (machinery : Machinery) (setting : Setting) (
         arrives = related.running.at.arrived.arrives;
         is = ap (behind lines place) related.running.at.arrived.is;
       };
-      rest = rest_behind lines place line rest (sym related.running.at.rest ∙ is);
+      rest = rest_of_rest lines place line rest (sym related.running.at.rest ∙ is);
     };
     words = record {
       registers_count = related.running.words.registers_count;

@@ -20,7 +20,8 @@ use Rattle.machine_meaning.specs.Machines.{Machine, Machinery, gone_behind, gone
 use Rattle.machine_meaning.specs.MachineTasks.{switched_machine}
 use Rattle.machine_meaning.specs.Moving.{after_walk, eventful, moved_by, moves_due, walked_all}
 use Rattle.moving_heap.specs.declared.stands.Moved.{Moved}
-use Rattle.runs_unseen.proofs.machine_ends.LineCounts.{lines_left, changed_within, dropped_less}
+use Rattle.runs_unseen.proofs.machine_ends.LineCounts.{lines_left}
+use Rattle.object_meaning.proofs.EndLaws.{changed_within, dropped_less}
 
 pub data LeadsOn (bound : ℕ) (state next : State) : Type 0 where
   counted : state.steps < bound → next.steps ≡ state.steps + 1 → LeadsOn bound state next

@@ -13,6 +13,7 @@ use Rattle.runs_unseen.specs.MachineEnds.{EachRunEnds}
 use Rattle.runs_unseen.proofs.machine_ends.LineCounts.{lines_left}
 use Rattle.runs_unseen.proofs.machine_ends.EffectLaws.{LeadsOn, counted, tasked, fewer, stuck, Fares}
 use Rattle.runs_unseen.proofs.machine_ends.StepLaws.{fares, step_at_end}
+use Rattle.object_meaning.proofs.EndLaws.{ends_before}
 
 record Halted (machinery : Machinery) (start : Progress Machine) : Type 0 where
   end : End
@@ -21,9 +22,6 @@ record Halted (machinery : Machinery) (start : Progress Machine) : Type 0 where
 
 abbrev Halts : Machinery → Machine → Type 0
 Halts machinery machine = (lines : List (List ℕ)) → Halted machinery (record { state = machine; lines = lines })
-
-ends_before : {E A : Type 0} (step : A → Next E A) (start next : A) (end : E) (last : A) → step start ≡ Go next → Ends step next end last → Ends step start end last
-ends_before step start next end last is rest = record { within = suc rest.within; by = ap (goes step rest.within) is ∙ rest.by }
 
 halted_before : (machinery : Machinery) (start next : Progress Machine) → machine_proceeds machinery start ≡ Go next → Halted machinery next → Halted machinery start
 halted_before machinery start next is rest =

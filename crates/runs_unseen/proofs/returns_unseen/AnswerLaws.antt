@@ -33,15 +33,11 @@ use Rattle.moves_unseen.specs.Types.{IsLineOf}
 use Rattle.moves_unseen.specs.Waits.{IsAnswer, IsSound}
 use Rattle.moves_unseen.proofs.LineTypes.{lines_are_typed}
 use Rattle.moves_unseen.proofs.MainLaws.{main_found}
-use Rattle.moves_unseen.proofs.PlainSteps.{number_repeated}
+use Rattle.moves_unseen.proofs.PlainSteps.{number_repeated, pointer_type}
 use Rattle.moves_unseen.proofs.StandLaws.{line_here}
 use Rattle.moves_unseen.proofs.ValueLaws.{base_of_pair, same_number, value_at}
 use Rattle.moves_unseen.proofs.VerifiedLaws.{pair_stands}
 use Rattle.runs_unseen.proofs.frames_spilled.ResultLaws.{result_type}
-
-pointer_type : (ty : Ty) → is_pointer ty ≡ true → ty ≡ Ptr
-pointer_type Ptr managed = refl
-pointer_type ty managed = absurd cc
 
 -- the call at which a frame waits has the type that the function answers
 called_type : (content : ModuleContent) (caller : Function) (above : ℕ) (op : Op) (inst : Instruction) (func : Function) → WaitsFor (Some above) op → RuleOf (scope_of content caller) op inst

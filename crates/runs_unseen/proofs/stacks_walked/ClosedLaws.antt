@@ -39,10 +39,10 @@ use Rattle.machine_meaning.specs.Relations.{AreClosed, AreSlots}
 use Rattle.machine_meaning.proofs.SlotLaws.{slots_after}
 use Rattle.moves_unseen.specs.Frames.{FrameWords, IsWaiting, group_pairs, relocated_pair}
 use Rattle.moves_unseen.specs.Waits.{IsSound}
-use Rattle.moves_unseen.proofs.StandLaws.{line_is}
 use Rattle.runs_unseen.proofs.records_found.SlotLaws.{IsInFrame, all_in_frame}
 use Rattle.runs_unseen.proofs.frames_spilled.GroupSlots.{IsPairOf, entry_pointer, pair_in_group, pair_of}
 use Rattle.runs_unseen.proofs.frames_spilled.TextLaws.{line_in_text, no_bundle, nothing_kept}
+use Rattle.object_meaning.proofs.LineLaws.{line_is}
 
 -- ---- the pairs of a group
 

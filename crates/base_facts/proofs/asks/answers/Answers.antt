@@ -5,9 +5,9 @@ use Rattle.base_facts.specs.declared.asks.Ask.{Ask}
 use Rattle.base_facts.specs.declared.asks.Found.{Found}
 use Rattle.base_facts.specs.Answers.{IsAnswered}
 use Rattle.base_facts.specs.Found.{IsFound, told_by}
-use Rattle.base_facts.proofs.ClosingLemmas.{ok_map}
 use Rattle.base_facts.proofs.FinalLemmas.{nothing_is_asked, found_more, told_all, all_grow, rows_inside}
 use Rattle.base_facts.proofs.asks.answers.Goals as goal
+use Rattle.std.proofs.lemmas.Result.{IfOk-weaker}
 
 pub loop-ask-init : goal.loop-ask-init
 loop-ask-init c =
@@ -37,7 +37,7 @@ returns c =
     let marks = c.in_ok-marks.marks.items in
     let all : take c.loop-ask.ask-index asks ≡ asks = take_all c.loop-ask.ask-index asks (omega arith) in
     let before = subst (λ (xs : List Ask). AllZip (IsFound func c.loop-ask.asked) xs found) all c.loop-ask.invariant.found in
-    ok_map c.told.result _ _
+    IfOk-weaker c.told.result _ _
     (λ answers is.
     subst (λ (xs : List Bool). AllZip (IsAnswered func) asks xs)
     (sym (is ∙ ap (λ (ms : List Bool). map (told_by ms) c.deref.result.now) c.deref-2.ensures.value ∙ ap (map (told_by marks)) c.deref.ensures.value))

@@ -4,9 +4,10 @@ use Rattle.ir_cfg.specs.Graphs.{Graph}
 use Rattle.ir_cfg.specs.Paths.{Reached}
 use Rattle.base_facts.specs.Asked.{IsReached}
 use Rattle.base_facts.proofs.StepLemmas.{fact_stands_at}
-use Rattle.base_facts.proofs.ClosingLemmas.{reached_arrives, ok_map}
+use Rattle.base_facts.proofs.ClosingLemmas.{reached_arrives}
 use Rattle.base_facts.proofs.FinalLemmas.{found_unreached, found_none, found_fact}
 use Rattle.base_facts.proofs.asks.find.Goals as goal
+use Rattle.std.proofs.lemmas.Result.{IfOk-weaker}
 
 pub returns-then-not-reached : goal.returns-then-not-reached
 returns-then-not-reached c =
@@ -34,5 +35,5 @@ returns-in-Some c =
     let func = c.args.func.now.content in
     let on : c.reached.result ≡ true = cc (c.if-not-reached.false) in
     let reached = reached_arrives func c.args.ask.block.0 (subst (λ (g : Graph). Reached g c.args.ask.block.0) c.requires.edges (c.reached.ensures.0 on)) in
-    ok_map c.find_fact.result _ _
+    IfOk-weaker c.find_fact.result _ _
     (λ found has. found_fact func c.args.ask c.in-Some.fact found c.args.asked.now c.find_fact.new.asked reached (sym c.fact_at.ensures ∙ c.in-Some.is) has) c.find_fact.ensures

@@ -2,9 +2,9 @@ use Rattle.std.proofs.Common.{◌≡◌, ◌∙◌, ℕ, ap, refl, length}
 use Rattle.std.proofs.lemmas.Option.{slice_get_within}
 use Rattle.pair_facts.specs.Lines.{lines_at}
 use Rattle.base_facts.specs.declared.facts.Fact.{Fact}
-use Rattle.base_facts.proofs.ClosingLemmas.{ok_map}
 use Rattle.base_facts.proofs.SourceLemmas.{can_ask_behind, behind_closed}
 use Rattle.base_facts.proofs.closing.ask_behind.Goals as goal
+use Rattle.std.proofs.lemmas.Result.{IfOk-weaker}
 
 pub ask-requires : goal.ask-requires
 ask-requires c =
@@ -28,6 +28,6 @@ returns c =
     let func = c.args.func.now.content in
     let end : c.count_insts-place.result ≡ length (lines_at func c.args.block) = c.count_insts-place.ensures ∙ ap (λ (b : ℕ). length (lines_at func b)) c.block_id.ensures in
     let other : Fact = record { block = c.args.block; place = c.count_insts-place.result; pointer = c.args.fact.pointer; base = c.args.fact.base } in
-    ok_map c.ask.result _ _
+    IfOk-weaker c.ask.result _ _
     (λ x has. behind_closed func c.args.number c.args.fact other c.args.block c.count_insts-place.result c.args.asked.now c.ask.new.asked c.requires.front c.requires.source end refl has)
     c.ask.ensures

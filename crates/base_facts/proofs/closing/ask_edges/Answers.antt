@@ -9,9 +9,9 @@ use Rattle.pair_facts.specs.Pairs.{at_entry}
 use Rattle.base_facts.specs.Facts.{operand_in, base_in}
 use Rattle.base_facts.specs.Asked.{MissesFact}
 use Rattle.base_facts.specs.Closing.{AskedBefore}
-use Rattle.base_facts.proofs.PredLemmas.{edge_of_pred, pred_of_edge}
 use Rattle.base_facts.proofs.ClosingLemmas.{one_fact, misses_entry, before_more, front_closed}
 use Rattle.base_facts.proofs.closing.ask_edges.Goals as goal
+use Rattle.ir_cfg.proofs.PredLaws.{pred_of_edge, edge_of_pred}
 
 pub ask_if_reached-requires-clause-edge : goal.ask_if_reached-requires-clause-edge
 ask_if_reached-requires-clause-edge c =

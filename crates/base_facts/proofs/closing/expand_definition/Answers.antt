@@ -1,6 +1,7 @@
 use Rattle.std.proofs.Common.{◌≡◌, ◌-◌, suc, arith}
-use Rattle.base_facts.proofs.ClosingLemmas.{can_step, definition_closed, null_closed, ok_map}
+use Rattle.base_facts.proofs.ClosingLemmas.{can_step, definition_closed, null_closed}
 use Rattle.base_facts.proofs.closing.expand_definition.Goals as goal
+use Rattle.std.proofs.lemmas.Result.{IfOk-weaker}
 
 pub take_step-requires-clause-step : goal.take_step-requires-clause-step
 take_step-requires-clause-step c =
@@ -11,7 +12,7 @@ take_step-requires-clause-step c =
 pub returns-in-Value : goal.returns-in-Value
 returns-in-Value c =
     let place : c.args.fact.place ≡ suc (c.args.fact.place - 1) = omega (arith, c.requires.defined.behind) in
-    ok_map c.take_step.result _ _
+    IfOk-weaker c.take_step.result _ _
     (λ x has. definition_closed c.args.func.now.content c.args.number c.args.fact c.in-Value.value (c.args.fact.place - 1) c.step_of-step.result c.args.asked.now c.take_step.new.asked
     c.requires.defined c.in-Value.is place c.step_of-step.ensures has) c.take_step.ensures
 

@@ -1,5 +1,6 @@
-use Rattle.base_facts.proofs.ClosingLemmas.{missed_grows, keys_grow, stepped_two, ok_map}
+use Rattle.base_facts.proofs.ClosingLemmas.{missed_grows, keys_grow, stepped_two}
 use Rattle.base_facts.proofs.closing.take_step.Goals as goal
+use Rattle.std.proofs.lemmas.Result.{IfOk-weaker}
 
 pub ask-requires : goal.ask-requires
 ask-requires c =
@@ -28,6 +29,6 @@ ask-requires-in-Two-2 c =
 
 pub returns-in_ok-ask-in-Two : goal.returns-in_ok-ask-in-Two
 returns-in_ok-ask-in-Two c =
-    ok_map c.ask-in-Two-2.result _ _
+    IfOk-weaker c.ask-in-Two-2.result _ _
     (λ x has. stepped_two c.args.func.now.content c.args.number c.args.step c.in-Two.first c.in-Two.second c.args.asked.now c.ask-in-Two.new.asked c.ask-in-Two-2.new.asked
     c.in-Two.is c.in_ok-ask-in-Two.ensures has) c.ask-in-Two-2.ensures

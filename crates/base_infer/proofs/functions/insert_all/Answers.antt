@@ -7,8 +7,9 @@ use Rattle.ir_ast.specs.Funcs.{instructions_of}
 use Rattle.object_meaning.specs.Lines.{after_all}
 use Rattle.base_forms.specs.Lines.{based_blocks}
 use Rattle.base_tables.specs.Tables.{tabled}
-use Rattle.base_infer.proofs.LineLemmas.{after-append, after_few, instructions-push, within_blocks, based_block, blocks-push}
+use Rattle.base_infer.proofs.LineLemmas.{instructions-push, within_blocks, based_block, blocks-push}
 use Rattle.base_infer.proofs.functions.insert_all.Goals as goal
+use Rattle.object_meaning.proofs.LineLaws.{after_few, after_append}
 
 pub insert_in-requires : goal.insert_in-requires
 insert_in-requires c =
@@ -26,7 +27,7 @@ loop-block-preserved c =
     let behind = c.in_ok-with_bases.ensures.behind in
     record {
       next = behind ∙ ap (λ (n : ℕ). after_all n block.insts) c.loop-block.invariant.next
-          ∙ sym (ap (after_all start) (instructions-push yielded block) ∙ after-append start (instructions_of yielded) block.insts);
+          ∙ sym (ap (after_all start) (instructions-push yielded block) ∙ after_append start (instructions_of yielded) block.insts);
       few = omega (
         arith,
         behind,

@@ -1,8 +1,9 @@
 use Rattle.std.proofs.Common.{◌∙◌, ℕ, take, ap, sym, arith}
 use Rattle.ir_ast.specs.Insts.{Instruction}
 use Rattle.object_meaning.specs.Lines.{following, after_all}
-use Rattle.base_infer.proofs.LineLemmas.{after_more, following_few}
+use Rattle.base_infer.proofs.LineLemmas.{after_more}
 use Rattle.base_infer.proofs.functions.value_after.Goals as goal
+use Rattle.object_meaning.proofs.LineLaws.{following_few}
 
 pub loop-inst-preserved : goal.loop-inst-preserved
 loop-inst-preserved c =

@@ -1,6 +1,6 @@
 use Rattle.std.specs.Prelude.{map}
-use Rattle.base_tables.proofs.UserLemmas.{adds_none, adds_operand}
 use Rattle.base_tables.proofs.derived.add_operands.Goals as goal
+use Rattle.derived_values.proofs.UserLemmas.{adds_operand, adds_none}
 
 pub loop-operand-init : goal.loop-operand-init
 loop-operand-init c = adds_none c.args.user (map (λ row. row.items) c.args.users.now.items)

@@ -1,8 +1,8 @@
 use Rattle.std.proofs.Common.{arith}
 use Rattle.std.specs.Prelude.{map}
 use Rattle.std.proofs.lemmas.List.{length-map}
-use Rattle.base_tables.proofs.UserLemmas.{adds_one, adds_past}
 use Rattle.base_tables.proofs.derived.add_user.Goals as goal
+use Rattle.derived_values.proofs.UserLemmas.{adds_past, adds_one}
 
 pub returns-in_ok-push_user : goal.returns-in_ok-push_user
 returns-in_ok-push_user c =

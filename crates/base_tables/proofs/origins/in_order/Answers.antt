@@ -4,9 +4,9 @@ use Rattle.std.specs.List.{range_with_len}
 use Rattle.std.proofs.lemmas.List.FromFn.{map-range_with_len_more}
 use Rattle.ir_ast.specs.declared.ops.Operand.{Operand}
 use Rattle.base_tables.specs.Kinds.{origin_in}
-use Rattle.base_tables.specs.Origins.{named}
 use Rattle.base_tables.specs.Seen.{seen_shape}
 use Rattle.base_tables.proofs.origins.in_order.Goals as goal
+use Rattle.ir_ast.specs.Operands.{named}
 
 pub loop-value-preserved : goal.loop-value-preserved
 loop-value-preserved c =

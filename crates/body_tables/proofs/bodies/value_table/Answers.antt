@@ -6,9 +6,9 @@ use Rattle.ir_ast.specs.Derived.{is_step}
 use Rattle.ir_ast.specs.Faults.PhiEdges.{is_phi}
 use Rattle.std.specs.Borrow.{Bor}
 use Rattle.body_tables.specs.Bodies.{seen_insts}
-use Rattle.body_tables.proofs.Elements.{seen-at}
 use Rattle.body_tables.proofs.Values.{table_more, any_more}
 use Rattle.body_tables.proofs.bodies.value_table.Goals as goal
+use Rattle.list_laws.proofs.Places.{seen_at}
 
 pub loop-inst-preserved : goal.loop-inst-preserved
 loop-inst-preserved c =
@@ -16,7 +16,7 @@ loop-inst-preserved c =
     let i = c.loop-inst.inst-index in
     let inst = c.inst-item.result.now in
     let at : slice_get insts i ≡ Some inst
-    = seen-at (λ (one : Bor Instruction). one.now) c.args.insts.now i c.inst-item.result c.loop-inst-test.true c.inst-item.is in
+    = seen_at (λ (one : Bor Instruction). one.now) c.args.insts.now i c.inst-item.result c.loop-inst-test.true c.inst-item.is in
     record {
       types = table_more definition_type (map argument c.args.func.now.content.args) insts i inst
           c.loop-inst.types.items _ at c.loop-inst.invariant.types c.in_ok-push_type.ensures;

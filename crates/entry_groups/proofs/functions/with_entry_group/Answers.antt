@@ -1,7 +1,8 @@
 use Rattle.std.proofs.Common.{rules, ◌≡◌, ◌∙◌, ℕ, List, ap, sym, subst, length}
 use Rattle.ir_ast.specs.Blocks.{BasicBlock}
 use Rattle.ir_ast.specs.Funcs.{Function, IsSmall, instructions_of}
-use Rattle.ssa_rebuild.proofs.RebuiltLaws.{small_rewritten, whole_is}
+use Rattle.rewriting_forms.specs.Names.{naming_of}
+use Rattle.ssa_rebuild.proofs.RebuiltLaws.{small_with, whole_with}
 use Rattle.entry_groups.proofs.EntryLaws.{entry_made}
 use Rattle.entry_groups.proofs.functions.with_entry_group.Goals as goal
 
@@ -18,7 +19,7 @@ of-requires c =
     let made = entry_made func c.args.marked.table _ _ _ _ _ _ _ _ _ _
     c.into_parts-func.ensures.ready c.into_parts-func.ensures.whole only c.requires c.in_ok-after.ensures (second ∙ ap length args) c.as_slice-3.ensures.value c.in_ok-row.ensures
     (first ∙ ap length args) lines c.relocates.ensures blocks in
-    small_rewritten func c.args.marked.table _ _ args made (subst (λ (f : Function). IsSmall f.args f.blocks) before c.into_parts-name.ensures.small) c.into_parts-func.ensures.ready.few
+    small_with func c.args.marked.table (naming_of func c.args.marked.table) _ _ args made (subst (λ (f : Function). IsSmall f.args f.blocks) before c.into_parts-name.ensures.small) c.into_parts-func.ensures.ready.few
 
 pub returns-clause-content : goal.returns-clause-content
 returns-clause-content c =
@@ -34,5 +35,5 @@ returns-clause-content c =
     c.into_parts-func.ensures.ready c.into_parts-func.ensures.whole only c.requires c.in_ok-after.ensures (second ∙ ap length args) c.as_slice-3.ensures.value c.in_ok-row.ensures
     (first ∙ ap length args) lines c.relocates.ensures blocks in
     c.of.ensures.content
-    ∙ whole_is func c.args.marked.table _ _ _ _ (c.into_parts-name.ensures.name ∙ ap (λ (f : Function). f.name) before)
+    ∙ whole_with func c.args.marked.table (naming_of func c.args.marked.table) _ _ _ _ (c.into_parts-name.ensures.name ∙ ap (λ (f : Function). f.name) before)
     (c.into_parts-name.ensures.answer ∙ ap (λ (f : Function). f.answer) before) args made

@@ -1,7 +1,7 @@
 use Rattle.std.proofs.Common.{◌∙◌, ◌++◌, ◌∷◌, [], ◌+◌, ℕ, List, ap, sym, append_assoc}
 use Rattle.std.specs.List.{range_with_len}
-use Rattle.ssa_rebuild.proofs.RowLaws.{range_more}
 use Rattle.entry_groups.proofs.numbers.push_range.Goals as goal
+use Rattle.list_laws.proofs.Ranges.{range_more}
 
 pub loop-place-preserved : goal.loop-place-preserved
 loop-place-preserved c =

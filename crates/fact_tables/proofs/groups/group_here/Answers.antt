@@ -5,8 +5,9 @@ use Rattle.object_meaning.specs.Frames.{is_member}
 use Rattle.pair_facts.specs.Lines.{lines_at, line_in}
 use Rattle.pair_facts.proofs.PlaceLaws.{head_here}
 use Rattle.fact_tables.specs.Groups.{IsGroupOf}
-use Rattle.fact_tables.proofs.GroupLemmas.{head_kept, head_none}
+use Rattle.fact_tables.proofs.GroupLemmas.{head_kept}
 use Rattle.fact_tables.proofs.groups.group_here.Goals as goal
+use Rattle.pair_facts.proofs.OwnLaws.{head_none}
 
 pub returns-then-is_statepoint : goal.returns-then-is_statepoint
 returns-then-is_statepoint c =

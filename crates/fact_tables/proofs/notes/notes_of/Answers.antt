@@ -11,9 +11,10 @@ use Rattle.object_meaning.specs.Lines.{Line, insts_in, registers_of}
 use Rattle.object_meaning.specs.Jumps.{phi_count}
 use Rattle.pair_facts.specs.Lines.{lines_at, head_here}
 use Rattle.fact_tables.specs.Phis.{ArePhis}
-use Rattle.fact_tables.proofs.LineLemmas.{insts_are, length-plain_lines}
+use Rattle.fact_tables.proofs.LineLemmas.{insts_are}
 use Rattle.fact_tables.proofs.NoteLemmas.{noted_more, noted_end, phis_of_lines}
 use Rattle.fact_tables.proofs.notes.notes_of.Goals as goal
+use Rattle.object_meaning.proofs.LineLaws.{plain_count}
 
 pub loop-place-preserved : goal.loop-place-preserved
 loop-place-preserved c =
@@ -45,7 +46,7 @@ returns c =
     let func = c.args.func.now.content in
     let lines = lines_at func c.args.number in
     let are = insts_are func c.args.number c.args.block.now c.requires in
-    let long : length lines ≡ length c.args.block.now.insts = length-plain_lines (slice_index (registers_of func) c.args.number) (insts_in func c.args.number) ∙ ap length are in
+    let long : length lines ≡ length c.args.block.now.insts = plain_count (slice_index (registers_of func) c.args.number) (insts_in func c.args.number) ∙ ap length are in
     let count : length c.insts-inst-items.result.now ≡ length c.args.block.now.insts = ap length c.insts-inst-items.ensures.value in
     let end = noted_end lines c.loop-place.place c.loop-place.start c.loop-place.head c.loop-place.starts.items c.push-2.new.self.items c.loop-place.heads.items (omega arith) c.in_ok-push-3.ensures.items c.loop-place.invariant in
     let front : c.phi_count-front.result ≡ phi_count lines =

@@ -1,7 +1,7 @@
 use Rattle.std.proofs.Common.{ap, sym, ◌∙◌}
 use Rattle.std.specs.Prelude.{unwrap_or}
-use Rattle.ir_meaning.proofs.OpeningLemmas.{main_is}
 use Rattle.ir_meaning.proofs.interpret.main_of.Goals as goal
+use Rattle.run_tasks.proofs.StartLemmas.{main_is}
 
 pub returns-in-None : goal.returns-in-None
 returns-in-None c =

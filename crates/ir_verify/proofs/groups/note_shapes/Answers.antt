@@ -11,9 +11,9 @@ use Rattle.body_tables.specs.Bodies.{given_by}
 use Rattle.ir_verify.specs.FunctionFaults.{ShapeAt}
 use Rattle.ir_verify.specs.Groups.{seen_open}
 use Rattle.ir_verify.proofs.Founds.{notes-none, notes-step, notes-all, notes-at_line}
-use Rattle.body_tables.proofs.Elements.{seen-at}
 use Rattle.ir_verify.proofs.GroupLemmas.{opened-start, opened-more, number-start, number-more, number-below, shape-iff}
 use Rattle.ir_verify.proofs.groups.note_shapes.Goals as goal
+use Rattle.list_laws.proofs.Places.{seen_at}
 
 pub loop-place-init : goal.loop-place-init
 loop-place-init c = record {
@@ -29,7 +29,7 @@ overflow_add-number c =
     let inst = c.index-insts-place.result.now in
     let at : slice_get (insts_of func) place ≡ Some inst
     = ap (λ (xs : List Instruction). slice_get xs place) (sym c.requires.insts)
-    ∙ seen-at (λ (one : Bor Instruction). one.now) c.args.insts.now place c.index-insts-place.result c.loop-place-test.true c.index-insts-place.is in
+    ∙ seen_at (λ (one : Bor Instruction). one.now) c.args.insts.now place c.index-insts-place.result c.loop-place-test.true c.index-insts-place.is in
     let size : length (insts_of func) ≡ length c.args.insts.now = ap length (sym c.requires.insts) ∙ length-map c.args.insts.now (λ (one : Bor Instruction). one.now) in
     let more = number-more func.content place inst at in
     let below = number-below func.content (place + 1) in
@@ -44,7 +44,7 @@ loop-place-preserved c =
     let held = option_map seen_open c.loop-place.held in
     let at : slice_get (insts_of func) place ≡ Some inst
     = ap (λ (xs : List Instruction). slice_get xs place) (sym c.requires.insts)
-    ∙ seen-at (λ (one : Bor Instruction). one.now) c.args.insts.now place c.index-insts-place.result c.loop-place-test.true c.index-insts-place.is in
+    ∙ seen_at (λ (one : Bor Instruction). one.now) c.args.insts.now place c.index-insts-place.result c.loop-place-test.true c.index-insts-place.is in
     let given : c.count_given-number.result ≡ length (given_by inst) = c.count_given-number.ensures in
     let shape = shape-iff func.content place inst c.args.types.now held c.requires.types c.loop-place.invariant.opened in
     let exact : IsTrue c.in_shape.result ↔ ShapeOf func.content place inst inst.op

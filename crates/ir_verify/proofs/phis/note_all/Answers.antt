@@ -8,9 +8,9 @@ use Rattle.ir_verify.specs.Founds.{FoundIn}
 use Rattle.ir_verify.specs.FunctionFaults.{BlockFaultAt, PhiFaultAt, start_of}
 use Rattle.ir_verify.specs.Phis.{times}
 use Rattle.ir_verify.proofs.Founds.{notes-step}
-use Rattle.body_tables.proofs.Elements.{item-at}
 use Rattle.ir_verify.proofs.PhiLemmas.{start-more, start-within}
 use Rattle.ir_verify.proofs.phis.note_all.Goals as goal
+use Rattle.list_laws.proofs.Places.{get_read}
 
 pub note_block-requires-clause-into : goal.note_block-requires-clause-into
 note_block-requires-clause-into c = λ from.
@@ -33,7 +33,7 @@ note_block-requires-clause-few c =
     let func = c.args.func.now.content in
     let at : slice_get func.blocks c.loop-number.number ≡ Some c.block-item.result
     = ap (λ (bs : List BasicBlock). slice_get bs c.loop-number.number) (sym c.blocks-block-items.ensures.value)
-    ∙ item-at c.blocks-block-items.result.now c.loop-number.number c.block-item.result c.loop-number-test.true c.block-item.is in
+    ∙ get_read c.blocks-block-items.result.now c.loop-number.number c.block-item.result c.loop-number-test.true c.block-item.is in
     let within = start-within func c.loop-number.number c.block-item.result at in
     let long = ap length c.insts-insts.ensures.value in
     omega (arith, within, long, c.loop-number.invariant.start, c.blocks-block-items.ensures.small.few_instructions)
@@ -43,7 +43,7 @@ overflow_add-start c =
     let func = c.args.func.now.content in
     let at : slice_get func.blocks c.loop-number.number ≡ Some c.block-item.result
     = ap (λ (bs : List BasicBlock). slice_get bs c.loop-number.number) (sym c.blocks-block-items.ensures.value)
-    ∙ item-at c.blocks-block-items.result.now c.loop-number.number c.block-item.result c.loop-number-test.true c.block-item.is in
+    ∙ get_read c.blocks-block-items.result.now c.loop-number.number c.block-item.result c.loop-number-test.true c.block-item.is in
     let within = start-within func c.loop-number.number c.block-item.result at in
     let long = ap length c.insts-insts.ensures.value in
     omega (arith, within, long, c.loop-number.invariant.start, c.blocks-block-items.ensures.small.few_instructions)
@@ -56,7 +56,7 @@ loop-number-preserved c =
     let block = c.block-item.result in
     let at : slice_get blocks number ≡ Some block
     = ap (λ (bs : List BasicBlock). slice_get bs number) (sym c.blocks-block-items.ensures.value)
-    ∙ item-at c.blocks-block-items.result.now number block c.loop-number-test.true c.block-item.is in
+    ∙ get_read c.blocks-block-items.result.now number block c.loop-number-test.true c.block-item.is in
     let f = c.args.first.now.found in
     let g = c.loop-number.first.found in
     let h = c.note_block.new.first.found in

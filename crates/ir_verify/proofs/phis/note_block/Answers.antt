@@ -3,10 +3,10 @@ use Rattle.ir_ast.specs.Faults.PhiEdges.{is_phi}
 use Rattle.ir_verify.specs.Bodies.{line_in}
 use Rattle.ir_verify.specs.FunctionFaults.{PhiFaultAt}
 use Rattle.ir_verify.proofs.Founds.{notes-none, notes-step, notes-at_line}
-use Rattle.body_tables.proofs.Elements.{item-at}
 use Rattle.ir_verify.proofs.EdgeLemmas.{edge-inside}
 use Rattle.ir_verify.proofs.PhiLemmas.{late-more, wrong-iff}
 use Rattle.ir_verify.proofs.phis.note_block.Goals as goal
+use Rattle.list_laws.proofs.Places.{get_read}
 
 pub loop-at-init : goal.loop-at-init
 loop-at-init c = record {
@@ -27,7 +27,7 @@ loop-at-preserved c =
     let insts = c.args.insts.now in
     let at = c.loop-at.at in
     let inst = c.index-insts-at.result in
-    let stands = item-at insts at inst c.loop-at-test.true c.index-insts-at.is in
+    let stands = get_read insts at inst c.loop-at-test.true c.index-insts-at.is in
     record {
       late = c.is_late-late.ensures ∙ ap (λ b. b || not (is_phi inst.op)) c.loop-at.invariant.late ∙ sym (late-more insts at inst stands);
       size = c.in_ok-wrong.ensures.size ∙ c.loop-at.invariant.size;

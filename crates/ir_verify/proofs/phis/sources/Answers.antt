@@ -3,9 +3,9 @@ use Rattle.std.specs.Prelude.{map, slice_get, Some}
 use Rattle.sp_ids.specs.declared.ids.BlockId.{BlockId}
 use Rattle.ir_ast.specs.Blocks.{BasicBlock}
 use Rattle.ir_verify.specs.Phis.{AddsEdges}
-use Rattle.body_tables.proofs.Elements.{item-at}
 use Rattle.ir_verify.proofs.EdgeLemmas.{blank-edges, edges-more, edges-all}
 use Rattle.ir_verify.proofs.phis.sources.Goals as goal
+use Rattle.list_laws.proofs.Places.{get_read}
 
 pub loop-from-init : goal.loop-from-init
 loop-from-init c =
@@ -20,7 +20,7 @@ loop-from-preserved c =
     let new = map (λ list. list.items) c.add_edges.new.into.items in
     let at : slice_get func.blocks from ≡ Some block
     = ap (λ (bs : List BasicBlock). slice_get bs from) (sym c.blocks-blocks.ensures.value)
-    ∙ item-at c.blocks-blocks.result.now from block c.loop-from-test.true c.index-blocks-from.is in
+    ∙ get_read c.blocks-blocks.result.now from block c.loop-from-test.true c.index-blocks-from.is in
     edges-more func from block old new at c.loop-from.invariant
     (subst (λ (labels : List BlockId). AddsEdges from labels old new) c.edges_of.ensures c.in_ok-add_edges.ensures)
 

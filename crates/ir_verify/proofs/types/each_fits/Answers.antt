@@ -2,13 +2,14 @@ use Rattle.std.proofs.Common.{◌≡◌, ◌∙◌, sym, arith, true, false}
 use Rattle.ir_ast.specs.Faults.TypeClash.{Fits}
 use Rattle.std.specs.Prelude.{refl}
 use Rattle.std.proofs.lemmas.Option.{slice_get-get_or}
-use Rattle.ir_verify.proofs.Zips.{zip_long, zip_at, zip_more, zip_all}
+use Rattle.ir_verify.proofs.Zips.{zip_at, zip_more, zip_all}
 use Rattle.ir_verify.proofs.types.each_fits.Goals as goal
+use Rattle.list_laws.proofs.Zips.{zip_lengths}
 
 pub returns-then-operands-types : goal.returns-then-operands-types
 returns-then-operands-types c = (
   (λ is. absurd (let bad : false ≡ true = is in cc)),
-  (λ all. absurd (let long = zip_long (Fits c.args.values.now) c.args.operands.now c.args.types.now all in c.if-operands-types.true long)),
+  (λ all. absurd (let long = zip_lengths (Fits c.args.values.now) c.args.operands.now c.args.types.now all in c.if-operands-types.true long)),
 )
 
 pub returns-then-not-fits : goal.returns-then-not-fits

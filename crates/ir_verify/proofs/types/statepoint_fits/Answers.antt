@@ -6,14 +6,15 @@ use Rattle.ir_ast.specs.declared.ops.Operand.{Operand}
 use Rattle.ir_ast.specs.Faults.TypeClash.{Fits}
 use Rattle.ir_ast.specs.declared.types.Ty.{Ty}
 use Rattle.ir_ast.specs.declared.types.Ty.TheVariants.{Ptr}
-use Rattle.ir_verify.proofs.Zips.{zip_long, zip_rest}
+use Rattle.ir_verify.proofs.Zips.{zip_rest}
 use Rattle.ir_verify.proofs.types.statepoint_fits.Goals as goal
+use Rattle.list_laws.proofs.Zips.{zip_lengths}
 
 pub returns-then-operands-types : goal.returns-then-operands-types
 returns-then-operands-types c =
     let copies = replicate (length c.args.operands.now - length c.args.types.now) Ptr in (
       (λ is. absurd (let bad : false ≡ true = is in cc)),
-      (λ all. absurd (let long = zip_long (Fits c.args.values.now) c.args.operands.now (c.args.types.now ++ copies) all in
+      (λ all. absurd (let long = zip_lengths (Fits c.args.values.now) c.args.operands.now (c.args.types.now ++ copies) all in
           let more = length-append c.args.types.now copies in omega (arith, c.if-operands-types.true, long, more))),
     )
 

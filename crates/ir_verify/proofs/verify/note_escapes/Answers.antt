@@ -6,13 +6,13 @@ use Rattle.std.proofs.lemmas.List.{length-map}
 use Rattle.ir_ast.specs.Insts.{Instruction}
 use Rattle.ir_ast.specs.Faults.DerivedEscapes.{values_leaving}
 use Rattle.ir_verify.specs.Bodies.{insts_of, line_in}
-use Rattle.body_tables.specs.Derivations.{has_mark}
 use Rattle.ir_verify.specs.FunctionFaults.{EscapeAt}
 use Rattle.ir_verify.proofs.Escapes.{nothing-escapes}
 use Rattle.ir_verify.proofs.Founds.{notes-step, notes-all, notes-at_line}
-use Rattle.body_tables.proofs.Elements.{seen-at}
 use Rattle.body_tables.proofs.UserLemmas.{escapes-iff}
 use Rattle.ir_verify.proofs.verify.note_escapes.Goals as goal
+use Rattle.list_laws.proofs.Places.{seen_at}
+use Rattle.ir_ast.specs.Lists.{has_mark}
 
 pub returns-then-not-has_step : goal.returns-then-not-has_step
 returns-then-not-has_step c = nothing-escapes c.args.func.now c.args.first.now.found (sym c.requires.steps ∙ c.if-not-has_step.true)
@@ -25,7 +25,7 @@ loop-place-preserved c =
     let marks = c.in_ok-marks.marks.items in
     let at : slice_get (insts_of func) place ≡ Some inst
     = ap (λ (xs : List Instruction). slice_get xs place) (sym c.requires.insts)
-    ∙ seen-at (λ (one : Bor Instruction). one.now) c.args.insts.now place c.index-insts-place.result c.loop-place-test.true c.index-insts-place.is in
+    ∙ seen_at (λ (one : Bor Instruction). one.now) c.args.insts.now place c.index-insts-place.result c.loop-place-test.true c.index-insts-place.is in
     let f = c.args.first.now.found in
     let g = c.loop-place.first.found in
     let h = c.note_if.new.self.found in

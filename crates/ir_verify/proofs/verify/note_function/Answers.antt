@@ -6,8 +6,8 @@ use Rattle.ir_lines.proofs.NoteLemmas.{Either, notes-then}
 use Rattle.ir_verify.specs.Bodies.{insts_of}
 use Rattle.ir_verify.specs.Founds.{FoundIn}
 use Rattle.ir_verify.specs.FunctionFaults.{LineFaultAt, BlockFaultAt, FormFault}
-use Rattle.ir_verify.proofs.Founds.{on-ok}
 use Rattle.ir_verify.proofs.verify.note_function.Goals as goal
+use Rattle.list_laws.proofs.Options.{on_ok}
 
 pub returns : goal.returns
 returns c =
@@ -18,7 +18,7 @@ returns c =
     let g = c.note_lines.new.first.found in
     let h = c.note_phis.new.first.found in
     let i = c.note_by_form.new.first.found in
-    on-ok c.note_by_form.result _ _
+    on_ok c.note_by_form.result _ _
     (λ by_form. notes-then f g i (FoundIn (LineFaultAt content func rows) (insts_of func))
     (Either (FoundIn (BlockFaultAt func) func.content.blocks) (FormFault content.form func)) c.in_ok-note_lines.ensures
     (notes-then g h i (FoundIn (BlockFaultAt func) func.content.blocks) (FormFault content.form func) c.in_ok-note_phis.ensures

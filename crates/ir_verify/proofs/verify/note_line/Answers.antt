@@ -4,9 +4,9 @@ use Rattle.ir_lines.specs.Notes.{Notes}
 use Rattle.ir_lines.proofs.NoteLemmas.{notes-nothing}
 use Rattle.ir_verify.specs.Bodies.{line_in, cases_in}
 use Rattle.ir_verify.specs.FunctionFaults.{InstFault, LineFaultAt}
-use Rattle.ir_verify.proofs.Founds.{on-ok}
 use Rattle.ir_verify.proofs.SoundLines.{no-fault}
 use Rattle.ir_verify.proofs.verify.note_line.Goals as goal
+use Rattle.list_laws.proofs.Options.{on_ok}
 
 pub returns-then-is_sound : goal.returns-then-is_sound
 returns-then-is_sound c =
@@ -28,7 +28,7 @@ returns c =
     let inst = c.args.inst.now in
     let f = c.args.first.now.found in
     let g = c.note_inst.new.first.found in
-    on-ok c.note_inst.result _ _
+    on_ok c.note_inst.result _ _
     (λ noted.
     subst (λ (n : ℕ). Notes f g (InstFault content func.content n (cases_in rows place) inst)) c.line_of-line.ensures
     (subst (λ (ns : List ℕ). Notes f g (InstFault content func.content c.line_of-line.result ns inst)) c.cases_at-rows.ensures noted))

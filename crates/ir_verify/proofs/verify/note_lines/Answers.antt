@@ -6,8 +6,8 @@ use Rattle.ir_ast.specs.Insts.{Instruction}
 use Rattle.ir_verify.specs.Bodies.{insts_of}
 use Rattle.ir_verify.specs.FunctionFaults.{LineFaultAt}
 use Rattle.ir_verify.proofs.Founds.{notes-step, notes-all}
-use Rattle.body_tables.proofs.Elements.{seen-at}
 use Rattle.ir_verify.proofs.verify.note_lines.Goals as goal
+use Rattle.list_laws.proofs.Places.{seen_at}
 
 pub loop-place-preserved : goal.loop-place-preserved
 loop-place-preserved c =
@@ -18,7 +18,7 @@ loop-place-preserved c =
     let inst = c.index-insts-place.result.now in
     let at : slice_get (insts_of func) place ≡ Some inst
     = ap (λ (xs : List Instruction). slice_get xs place) (sym c.requires.insts)
-    ∙ seen-at (λ (one : Bor Instruction). one.now) c.args.insts.now place c.index-insts-place.result c.loop-place-test.true c.index-insts-place.is in
+    ∙ seen_at (λ (one : Bor Instruction). one.now) c.args.insts.now place c.index-insts-place.result c.loop-place-test.true c.index-insts-place.is in
     let f = c.args.first.now.found in
     let g = c.loop-place.first.found in
     let h = c.note_line.new.first.found in

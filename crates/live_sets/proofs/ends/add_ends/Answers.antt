@@ -2,11 +2,12 @@ use Rattle.std.proofs.Common.{◌∙◌, ◌++◌, ◌&&◌, ◌∷◌, [], if�
 use Rattle.std.proofs.lemmas.Bool.Decides.{nat_tests}
 use Rattle.std.proofs.lemmas.Option.{slice_get-get_or}
 use Rattle.rewriting_forms.specs.Numbered.{among}
-use Rattle.live_sets.specs.Values.{has_mark}
 use Rattle.live_sets.specs.Starts.{list_at}
-use Rattle.live_sets.proofs.EndLemmas.{adds_none, both_false, rows_length}
+use Rattle.live_sets.proofs.EndLemmas.{adds_none, rows_length}
 use Rattle.live_sets.proofs.FoundLemmas.{StandsOnce, found_more, adds_found}
 use Rattle.live_sets.proofs.ends.add_ends.Goals as goal
+use Rattle.list_laws.proofs.Booleans.{and_false}
+use Rattle.ir_ast.specs.Lists.{has_mark}
 
 pub returns-then-is_empty-clause-added : goal.returns-then-is_empty-clause-added
 returns-then-is_empty-clause-added c =
@@ -21,7 +22,7 @@ find_reached-requires-clause-clear c =
 pub loop-node-init : goal.loop-node-init
 loop-node-init c = record {
   whole = refl;
-  each = λ b below. sym (ap (λ (t : Bool). list_at c.args.ends.now.items b ++ (if t then c.args.value ∷ [] else [])) (both_false (has_mark c.args.wanted.now b))
+  each = λ b below. sym (ap (λ (t : Bool). list_at c.args.ends.now.items b ++ (if t then c.args.value ∷ [] else [])) (and_false (has_mark c.args.wanted.now b))
       ∙ append-nil (list_at c.args.ends.now.items b));
 }
 

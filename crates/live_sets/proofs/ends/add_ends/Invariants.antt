@@ -1,8 +1,8 @@
 use Rattle.std.proofs.Common.{◌≡◌, ℕ, ◌<◌, ◌++◌, ◌&&◌, if◌then◌else◌, ◌∷◌, [], length, take}
 use Rattle.rewriting_forms.specs.Numbered.{among}
-use Rattle.live_sets.specs.Values.{has_mark}
 use Rattle.live_sets.specs.Starts.{list_at}
 use Rattle.live_sets.proofs.ends.add_ends.Given as goal
+use Rattle.ir_ast.specs.Lists.{has_mark}
 
 abbrev pub invariant-loop-node : goal.invariant-loop-node
 invariant-loop-node l = record {

@@ -6,7 +6,6 @@ use Rattle.graph_search.specs.Edges.{AreInside}
 use Rattle.graph_search.specs.Paths.{MarksReached}
 use Rattle.object_meaning.specs.Lines.{registers_of}
 use Rattle.rewriting_forms.specs.Numbered.{pointers, preds}
-use Rattle.live_sets.specs.Values.{has_mark, valued}
 use Rattle.live_sets.specs.Starts.{starts_of, list_at}
 use Rattle.live_sets.specs.Ends.{backward_rows, rows_of}
 use Rattle.live_sets.proofs.StartLemmas.{list_is}
@@ -14,6 +13,8 @@ use Rattle.live_sets.proofs.EndLemmas.{rows_are, places_length}
 use Rattle.live_sets.proofs.Reaches.{all_inside, marks_are}
 use Rattle.live_sets.proofs.EndsLaws.{empty_at, value_at, pointer_marked, marked_below, ends_more, ends_all}
 use Rattle.live_sets.proofs.ends.all_ends.Goals as goal
+use Rattle.ir_ast.specs.Operands.{valued}
+use Rattle.ir_ast.specs.Lists.{has_mark}
 
 pub loop-value-init : goal.loop-value-init
 loop-value-init c = record {

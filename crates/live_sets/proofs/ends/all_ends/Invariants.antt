@@ -1,9 +1,10 @@
 use Rattle.std.proofs.Common.{◌≡◌, ℕ, ◌<◌, ◌+◌, length, map, filter, take, replicate, true, false}
 use Rattle.rewriting_forms.specs.Numbered.{pointers}
-use Rattle.live_sets.specs.Values.{has_mark, valued}
 use Rattle.live_sets.specs.Starts.{list_at}
 use Rattle.live_sets.specs.Ends.{lives_at_end}
 use Rattle.live_sets.proofs.ends.all_ends.Given as goal
+use Rattle.ir_ast.specs.Operands.{valued}
+use Rattle.ir_ast.specs.Lists.{has_mark}
 
 abbrev pub invariant-loop-value : goal.invariant-loop-value
 invariant-loop-value l = record {

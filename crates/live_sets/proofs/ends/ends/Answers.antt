@@ -2,9 +2,10 @@ use Rattle.std.proofs.Common.{◌∙◌, ap, arith, length}
 use Rattle.std.proofs.lemmas.List.{length-map}
 use Rattle.ir_ast.specs.Types.{is_pointer}
 use Rattle.ir_ast.specs.Values.{value_types}
-use Rattle.live_sets.proofs.WholeLaws.{few_values, values_are}
+use Rattle.live_sets.proofs.WholeLaws.{values_are}
 use Rattle.live_sets.proofs.EndsLaws.{empty_at, ends_none}
 use Rattle.live_sets.proofs.ends.ends.Goals as goal
+use Rattle.ir_ast.proofs.FuncLaws.{few_values}
 
 pub marked-requires : goal.marked-requires
 marked-requires c =

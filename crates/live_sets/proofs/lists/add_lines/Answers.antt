@@ -4,13 +4,15 @@ use Rattle.ir_ast.specs.Insts.{Instruction}
 use Rattle.ir_ast.specs.Blocks.{BasicBlock}
 use Rattle.ir_ast.specs.Funcs.{instructions_of}
 use Rattle.object_meaning.specs.Lines.{after_all, numbered, insts_in}
-use Rattle.live_sets.specs.Values.{valued}
 use Rattle.live_sets.specs.Starts.{first_of}
 use Rattle.live_sets.specs.Lists.{AtPlace}
 use Rattle.std.proofs.lemmas.List.{length-take-le}
-use Rattle.live_sets.proofs.NumberLemmas.{get_read, first_small, block_room, after_small}
-use Rattle.live_sets.proofs.ListLaws.{read_insts, number_before, some_before, step, begun, done, taken_whole}
+use Rattle.live_sets.proofs.NumberLemmas.{first_small, block_room}
+use Rattle.live_sets.proofs.ListLaws.{read_insts, number_before, some_before, step, begun, done}
 use Rattle.live_sets.proofs.lists.add_lines.Goals as goal
+use Rattle.object_meaning.proofs.LineLaws.{after_few}
+use Rattle.list_laws.proofs.Places.{get_read, take_whole}
+use Rattle.ir_ast.specs.Operands.{valued}
 
 pub after-next-requires : goal.after-next-requires
 after-next-requires c =
@@ -30,7 +32,7 @@ loop-place-init c =
     let insts = read_insts func c.args.number c.blocks-2.result.now c.index-blocks-number.result c.insts-insts.result.now c.blocks-2.ensures.value c.requires.number c.index-blocks-number.is c.insts-insts.ensures.value in
     record {
       within = omega arith;
-      next = c.after-next.ensures ∙ sym (ap (after_all c.args.first) (taken_whole c.insts-insts.result.now));
+      next = c.after-next.ensures ∙ sym (ap (after_all c.args.first) (take_whole c.insts-insts.result.now));
       at = subst (λ (is : List Instruction). AtPlace func c.args.bases.now c.args.marks.now c.args.number (length is) c.fill.new.set c.args.lists.now.items c.args.lists.now.items) insts
           (begun func c.args.bases.now c.args.marks.now c.requires.marks c.args.number c.args.ends.now c.fill.new.set c.args.lists.now.items c.requires.ends c.in_ok-fill.ensures);
     }
@@ -54,7 +56,7 @@ result_of-to-requires c =
     let at = get_read insts p c.index-insts-place.result (omega (arith, place_is, c.loop-place.invariant.within)) c.index-insts-place.is in
     let next : c.loop-place.next ≡ after_all c.args.first (take (suc p) insts) = c.loop-place.invariant.next ∙ ap (λ (n : ℕ). after_all c.args.first (take n insts)) (sym place_is) in
     let number = number_before c.args.first c.before-next.result p insts c.index-insts-place.result at (c.before-next.ensures ∙ next) in
-    let small = after_small c.args.first (take p insts) in
+    let small = after_few c.args.first (take p insts) in
     let few = length-take-le p insts (omega (arith, place_is, c.loop-place.invariant.within)) in
     let first = first_small (length func.args) func.blocks c.args.number in
     let blocks = c.blocks-2.result.now in

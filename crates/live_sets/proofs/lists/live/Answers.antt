@@ -5,23 +5,25 @@ use Rattle.std.proofs.lemmas.Option.{get_or_from_slice_get}
 use Rattle.object_meaning.specs.Lines.{registers_of}
 use Rattle.rewriting_forms.specs.Numbered.{lines_at}
 use Rattle.rewriting_forms.specs.Liveness.{lists_from, live_lists}
-use Rattle.live_sets.specs.Values.{has_mark, valued}
-use Rattle.live_sets.proofs.NumberLemmas.{get_read, firsts_length}
 use Rattle.live_sets.proofs.StartLemmas.{list_is}
 use Rattle.live_sets.proofs.ListLaws.{blocks_back}
 use Rattle.live_sets.proofs.WholeLaws.{calling_at, whole}
 use Rattle.live_sets.proofs.lists.live.Goals as goal
+use Rattle.object_meaning.proofs.LineLaws.{count_registers}
+use Rattle.list_laws.proofs.Places.{get_read}
+use Rattle.ir_ast.specs.Operands.{valued}
+use Rattle.ir_ast.specs.Lists.{has_mark}
 
 pub index-requires : goal.index-requires
 index-requires c =
     let func = c.args.func.now.content in
-    let long = ap length c.in_ok-firsts.ensures ∙ firsts_length (length func.args) func.blocks in
+    let long = ap length c.in_ok-firsts.ensures ∙ count_registers (length func.args) func.blocks in
     omega (arith, long, c.loop-number.invariant.within, c.loop-number-test.true)
 
 pub add_block-requires-clause-first : goal.add_block-requires-clause-first
 add_block-requires-clause-first c =
     let func = c.args.func.now.content in
-    let long = ap length c.in_ok-firsts.ensures ∙ firsts_length (length func.args) func.blocks in
+    let long = ap length c.in_ok-firsts.ensures ∙ count_registers (length func.args) func.blocks in
     let n = c.loop-number.number - 1 in
     sym (get_or_from_slice_get (registers_of func) n c.index.result.now 0
     (ap (λ (ns : List ℕ). slice_get ns n) (sym c.in_ok-firsts.ensures)

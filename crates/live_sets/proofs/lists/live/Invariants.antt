@@ -3,9 +3,9 @@ use Rattle.std.specs.Prelude.{reverse}
 use Rattle.std.specs.List.{flat_map, range_with_len}
 use Rattle.rewriting_forms.specs.Numbered.{lines_at}
 use Rattle.rewriting_forms.specs.Liveness.{lists_from}
-use Rattle.live_sets.specs.Values.{valued}
 use Rattle.live_sets.specs.Lists.{items_of}
 use Rattle.live_sets.proofs.lists.live.Given as goal
+use Rattle.ir_ast.specs.Operands.{valued}
 
 abbrev pub invariant-loop-number : goal.invariant-loop-number
 invariant-loop-number l = record {

@@ -1,10 +1,11 @@
 use Rattle.std.proofs.Common.{◌≡◌, ◌∙◌, ◌+◌, ap, arith, length, drop, sym, List, ◌++◌, ◌∷◌, [], ℕ}
-use Rattle.list_laws.proofs.Places.{drop_at}
+use Rattle.list_laws.proofs.Places.{drop_at, get_read}
 use Rattle.ir_ast.specs.Blocks.{BasicBlock}
 use Rattle.ir_ast.specs.Funcs.{instructions_of}
 use Rattle.object_meaning.specs.Lines.{after_all, first_registers}
-use Rattle.live_sets.proofs.NumberLemmas.{after_small, firsts_push, block_room, block_grown, get_read}
+use Rattle.live_sets.proofs.NumberLemmas.{firsts_push, block_room, block_grown}
 use Rattle.live_sets.proofs.numbers.first_numbers.Goals as goal
+use Rattle.object_meaning.proofs.LineLaws.{after_few}
 
 pub after-next-requires : goal.after-next-requires
 after-next-requires c =
@@ -23,7 +24,7 @@ loop-block-preserved c =
     let rest = drop_at blocks at block (get_read blocks at block c.loop-block-test.true c.block-item.is) in
     let step : c.after-next.result ≡ after_all c.loop-block.next block.insts = c.after-next.ensures ∙ ap (after_all c.loop-block.next) c.insts.ensures.value in
     let pushed : c.push.new.self.items ≡ c.loop-block.numbers.items ++ c.loop-block.next ∷ [] = c.in_ok-push.ensures.items in
-    let small = after_small c.loop-block.next block.insts in
+    let small = after_few c.loop-block.next block.insts in
     let grown = block_grown blocks at block c.loop-block-test.true c.block-item.is in
     record {
       is = ap (λ (ns : List ℕ). ns ++ first_registers c.after-next.result (drop (at + 1) blocks)) pushed

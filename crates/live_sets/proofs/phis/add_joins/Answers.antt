@@ -7,8 +7,9 @@ use Rattle.rewriting_forms.specs.Names.{is_many}
 use Rattle.live_sets.specs.Starts.{list_at}
 use Rattle.live_sets.proofs.EndLemmas.{rows_length}
 use Rattle.live_sets.proofs.FoundLemmas.{StandsOnce, found_more, joins_found, join_grown}
-use Rattle.live_sets.proofs.JoinLaws.{joins_none, none_wanted, none_marked, both_false}
+use Rattle.live_sets.proofs.JoinLaws.{joins_none, none_wanted, none_marked}
 use Rattle.live_sets.proofs.phis.add_joins.Goals as goal
+use Rattle.list_laws.proofs.Booleans.{and_false}
 
 pub returns-then-not-wanted-clause-added : goal.returns-then-not-wanted-clause-added
 returns-then-not-wanted-clause-added c =
@@ -30,7 +31,7 @@ find_reached-requires-clause-clear c =
 pub loop-node-init : goal.loop-node-init
 loop-node-init c = record {
   whole = refl;
-  each = λ b below. sym (ap (λ (t : Bool). list_at c.args.joins.now.items b ++ (if t then c.args.value ∷ [] else [])) (both_false (is_many (get_or c.args.places.now.fronts b [])))
+  each = λ b below. sym (ap (λ (t : Bool). list_at c.args.joins.now.items b ++ (if t then c.args.value ∷ [] else [])) (and_false (is_many (get_or c.args.places.now.fronts b [])))
       ∙ append-nil (list_at c.args.joins.now.items b));
 }
 

@@ -6,7 +6,6 @@ use Rattle.graph_search.specs.Edges.{AreInside}
 use Rattle.graph_search.specs.Paths.{MarksReached}
 use Rattle.object_meaning.specs.Lines.{registers_of}
 use Rattle.rewriting_forms.specs.Numbered.{pointers, preds}
-use Rattle.live_sets.specs.Values.{has_mark, valued}
 use Rattle.live_sets.specs.Starts.{starts_of, list_at}
 use Rattle.live_sets.specs.Ends.{Places, backward_rows, rows_of}
 use Rattle.live_sets.proofs.StartLemmas.{list_is}
@@ -17,6 +16,8 @@ use Rattle.live_sets.proofs.EndLemmas.{fronts_are}
 use Rattle.live_sets.proofs.JoinLaws.{joins_more, joins_all, front_at}
 use Rattle.rewriting_forms.specs.Names.{is_many}
 use Rattle.live_sets.proofs.phis.all_joins.Goals as goal
+use Rattle.ir_ast.specs.Operands.{valued}
+use Rattle.ir_ast.specs.Lists.{has_mark}
 
 pub loop-value-init : goal.loop-value-init
 loop-value-init c = record {

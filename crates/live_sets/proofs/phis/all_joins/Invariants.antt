@@ -1,9 +1,9 @@
 use Rattle.std.proofs.Common.{◌≡◌, ℕ, ◌<◌, ◌+◌, length, map, filter, take, replicate, false}
 use Rattle.rewriting_forms.specs.Numbered.{pointers}
 use Rattle.rewriting_forms.specs.Names.{joins_of}
-use Rattle.live_sets.specs.Values.{valued}
 use Rattle.live_sets.specs.Starts.{list_at}
 use Rattle.live_sets.proofs.phis.all_joins.Given as goal
+use Rattle.ir_ast.specs.Operands.{valued}
 
 abbrev pub invariant-loop-value : goal.invariant-loop-value
 invariant-loop-value l = record {

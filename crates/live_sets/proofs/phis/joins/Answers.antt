@@ -2,10 +2,11 @@ use Rattle.std.proofs.Common.{◌∙◌, ap, arith, length}
 use Rattle.std.proofs.lemmas.List.{length-map}
 use Rattle.ir_ast.specs.Types.{is_pointer}
 use Rattle.ir_ast.specs.Values.{value_types}
-use Rattle.live_sets.proofs.WholeLaws.{few_values, values_are}
+use Rattle.live_sets.proofs.WholeLaws.{values_are}
 use Rattle.live_sets.proofs.EndsLaws.{empty_at}
 use Rattle.live_sets.proofs.JoinLaws.{none_joined}
 use Rattle.live_sets.proofs.phis.joins.Goals as goal
+use Rattle.ir_ast.proofs.FuncLaws.{few_values}
 
 pub marked-requires : goal.marked-requires
 marked-requires c =

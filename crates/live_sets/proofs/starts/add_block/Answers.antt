@@ -1,9 +1,10 @@
 use Rattle.std.proofs.Common.{◌∙◌, ap, sym, ℕ, ◌++◌, take, arith}
 use Rattle.object_meaning.specs.Lines.{following, after_all}
 use Rattle.live_sets.specs.Starts.{line_adds, block_adds}
-use Rattle.live_sets.proofs.NumberLemmas.{take_more, after_push, following_small}
 use Rattle.live_sets.proofs.StartLemmas.{grown_both, block_adds_push}
 use Rattle.live_sets.proofs.starts.add_block.Goals as goal
+use Rattle.object_meaning.proofs.LineLaws.{following_few, after_push}
+use Rattle.list_laws.proofs.Places.{take_item}
 
 pub loop-inst-preserved : goal.loop-inst-preserved
 loop-inst-preserved c =
@@ -12,9 +13,9 @@ loop-inst-preserved c =
     let insts = c.args.insts.now in
     let at = c.loop-inst.inst-index in
     let inst = c.inst-item.result in
-    let more = take_more insts at inst c.loop-inst-test.true c.inst-item.is in
+    let more = take_item insts at inst c.loop-inst-test.true c.inst-item.is in
     let step = c.following-next.ensures in
-    let one = following_small c.loop-inst.next inst in
+    let one = following_few c.loop-inst.next inst in
     record {
       grown = grown_both c.args.wanted.now c.args.starts.now.items c.loop-inst.starts.items c.add_line.new.starts.items (λ (v : ℕ). block_adds marks bases c.args.node c.args.first c.args.first v (take at insts))
           (λ (v : ℕ). line_adds marks bases (record { node = c.args.node; first = c.args.first; next = c.loop-inst.next }) v inst) _ c.loop-inst.invariant.grown c.in_ok-add_line.ensures

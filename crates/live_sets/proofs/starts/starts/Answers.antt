@@ -4,13 +4,15 @@ use Rattle.std.specs.List.{flat_map, range_with_len}
 use Rattle.ir_ast.specs.Blocks.{BasicBlock}
 use Rattle.ir_ast.specs.Funcs.{instructions_of}
 use Rattle.live_sets.specs.Starts.{block_adds, starts_in}
-use Rattle.live_sets.proofs.NumberLemmas.{firsts_length, first_small, block_room, get_read}
+use Rattle.live_sets.proofs.NumberLemmas.{first_small, block_room}
 use Rattle.live_sets.proofs.StartLemmas.{starts_more, block_starts}
 use Rattle.live_sets.proofs.starts.starts.Goals as goal
+use Rattle.object_meaning.proofs.LineLaws.{count_registers}
+use Rattle.list_laws.proofs.Places.{get_read}
 
 pub bounds-firsts-number : goal.bounds-firsts-number
 bounds-firsts-number c =
-    let long = firsts_length (length c.args.func.now.content.args) c.args.func.now.content.blocks in
+    let long = count_registers (length c.args.func.now.content.args) c.args.func.now.content.blocks in
     omega (arith, long, ap length c.requires.firsts, ap length c.blocks-block-items.ensures.value, c.loop-number-test.true)
 
 pub add_block-requires-clause-few : goal.add_block-requires-clause-few

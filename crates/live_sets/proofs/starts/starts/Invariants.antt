@@ -1,8 +1,8 @@
 use Rattle.std.proofs.Common.{◌≡◌, length, ℕ, ◌<◌, true}
 use Rattle.std.specs.List.{flat_map, range_with_len}
-use Rattle.live_sets.specs.Values.{has_mark}
 use Rattle.live_sets.specs.Starts.{list_at, starts_in}
 use Rattle.live_sets.proofs.starts.starts.Given as goal
+use Rattle.ir_ast.specs.Lists.{has_mark}
 
 abbrev pub invariant-loop-number : goal.invariant-loop-number
 invariant-loop-number l = record {

@@ -1,7 +1,7 @@
 use Rattle.std.proofs.Common.{◌≡◌, true, false, sym, ◌∙◌, arith}
-use Rattle.machine_frames.specs.Frames.{is_statepoint}
 use Rattle.machine_frames.proofs.LineLemmas.{behind_point, behind_call}
 use Rattle.machine_frames.proofs.frames.left_behind.Goals as goal
+use Rattle.ir_ast.specs.Ops.{is_statepoint}
 
 pub returns-then-is_statepoint : goal.returns-then-is_statepoint
 returns-then-is_statepoint c =

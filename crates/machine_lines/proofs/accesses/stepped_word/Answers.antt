@@ -4,8 +4,8 @@ use mir.Val.{of_z}
 use mir.ValLaws.{to_z-of_z}
 use Rattle.sp_ids.specs.Numbers.{signed}
 use Rattle.object_meaning.specs.Computing.{element_bytes, field_bytes}
-use Rattle.machine_lines.proofs.AccessLemmas.{scaled}
 use Rattle.machine_lines.proofs.accesses.stepped_word.Goals as goal
+use Rattle.flat_code.proofs.SizeLemmas.{scaled}
 
 pub returns : goal.returns
 returns c =

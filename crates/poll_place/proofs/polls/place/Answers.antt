@@ -1,7 +1,7 @@
 use Rattle.ir_ast.specs.Funcs.{content_of}
 use Rattle.poll_place.specs.Room.{HasFewLines}
-use Rattle.poll_place.proofs.PlacedLemmas.{all_under}
 use Rattle.poll_place.proofs.polls.place.Goals as goal
+use Rattle.list_laws.proofs.Contents.{all_under}
 
 pub place_all-requires : goal.place_all-requires
 place_all-requires c =

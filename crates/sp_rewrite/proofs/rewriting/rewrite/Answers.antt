@@ -4,7 +4,6 @@ use Rattle.ir_ast.specs.Funcs.{content_of}
 use Rattle.ir_ast.specs.Modules.{LinedModule}
 use Rattle.ir_ast.specs.declared.modules.Form.TheVariants.{Rewritten}
 use Rattle.ir_cfg.proofs.TypedLemmas.{formed_module}
-use Rattle.poll_place.proofs.PlacedLemmas.{all_under}
 use Rattle.base_forms.specs.Polls.{placed}
 use Rattle.rewrite_passes.specs.Before.{CanBegin, made_of, relocates_of}
 use Rattle.sp_rewrite.specs.Statements.{IsRewritten}
@@ -12,6 +11,7 @@ use Rattle.sp_rewrite.proofs.BareLaws.{no_bundle}
 use Rattle.sp_rewrite.proofs.CallLaws.{can_begin, can_have_groups, few_relocates, is_rewritten, many_relocates}
 use Rattle.sp_rewrite.proofs.RewrittenLaws as laws
 use Rattle.sp_rewrite.proofs.rewriting.rewrite.Goals as goal
+use Rattle.list_laws.proofs.Contents.{all_under}
 
 pub before_groups-requires : goal.before_groups-requires
 before_groups-requires c =

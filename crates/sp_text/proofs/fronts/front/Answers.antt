@@ -8,9 +8,10 @@ use Rattle.sp_text.specs.Tokens.{front_of, are_digits, is_name, ends_quote, is_b
 use Rattle.sp_text.specs.declared.bytes.TheConstants.{FIRST_BYTES}
 use Rattle.sp_text.specs.declared.tokens.Kind.{Kind}
 use Rattle.sp_text.specs.declared.tokens.Kind.TheVariants.{Word, Local, Global, Number, Quoted, Hash, Bang}
-use Rattle.sp_text.proofs.KindLemmas.{BeginsKind, front-from, front-by, local_kind, global_kind, signed_kind, quoted_kind, hash_kind, bang_kind, ellipsis_kind, front-mark, digit_kind, word_kind, no_kind, front-never, one_more}
+use Rattle.sp_text.proofs.KindLemmas.{BeginsKind, front-from, front-by, local_kind, global_kind, signed_kind, quoted_kind, hash_kind, bang_kind, ellipsis_kind, front-mark, digit_kind, word_kind, no_kind, front-never}
 use Rattle.sp_text.proofs.Runs.{run_is_longest}
 use Rattle.sp_text.proofs.fronts.front.Goals as goal
+use Rattle.list_laws.proofs.Numbers.{after_one}
 
 -- the bytes for which this one stands are those that pass the test
 abbrev Stands : ℕ → (ℕ → Bool) → Type 0
@@ -34,7 +35,7 @@ returns-then-class-eq44 c = front-mark _ _ c.ranges.first.fits (passes is_mark 4
 
 pub returns-then-class-eq97 : goal.returns-then-class-eq97
 returns-then-class-eq97 c =
-    rw (c.word_len.ensures.len, one_more)
+    rw (c.word_len.ensures.len, after_one)
     (sym (front-by _ Word _ _ _ (word_kind _ c.ranges.first.fits (passes begins_word 97 c.args.first refl c.ranges.first.fits c.if-class-eq97.true)) (run_is_longest _ _)))
 
 pub returns-in_ok-name_front-in-37 : goal.returns-in_ok-name_front-in-37
@@ -81,7 +82,7 @@ returns-in_err-ellipsis_front-in-46 c = rw c.from_residual-in_err-ellipsis_front
 
 pub returns-in_default : goal.returns-in_default
 returns-in_default c =
-    rw (c.digits_len.ensures.len, one_more)
+    rw (c.digits_len.ensures.len, after_one)
     (sym (front-by _ Number _ _ _ (digit_kind _ c.ranges.first.fits (sym c.if-is_ascii_digit.ensures.value)) (run_is_longest _ _)))
 
 pub returns-in_default-2 : goal.returns-in_default-2

@@ -4,9 +4,10 @@ use Rattle.std.proofs.lemmas.List.{take_all}
 use Rattle.ir_ast.specs.Insts.{Instruction}
 use Rattle.ssa_rebuild.specs.Rows.{phi_entries}
 use Rattle.ssa_rebuild.specs.Arrivals.{phi_numbers}
-use Rattle.ssa_rebuild.proofs.RowLemmas.{flat_more, take_item}
+use Rattle.ssa_rebuild.proofs.RowLemmas.{flat_more}
 use Rattle.ssa_rebuild.proofs.TakeLemmas.{takes_none, takes_both, takes_same}
 use Rattle.ssa_rebuild.proofs.arrivals.take_phis.Goals as goal
+use Rattle.list_laws.proofs.Places.{take_item}
 
 pub loop-inst-init : goal.loop-inst-init
 loop-inst-init c = takes_none c.args.rows.now c.args.arrivals.now _ _ (λ p. refl) (λ here. refl)

@@ -1,10 +1,17 @@
 use Rattle.std.proofs.Common.{◌∙◌, ◌≡◌, ◌++◌, ◌∷◌, [], ◌+◌, ℕ, List, ap, sym, arith, length}
+use Rattle.std.proofs.lemmas.Iterator.Adapters.{YieldsList-from_vec}
+use Rattle.std.proofs.lemmas.Iterator.Consumers.{YieldsList-turn}
 use Rattle.std.proofs.lemmas.List.{length_push}
 use Rattle.ir_ast.specs.Blocks.{BasicBlock}
 use Rattle.ssa_rebuild.specs.declared.writing.Writing.{Writing}
 use Rattle.ssa_rebuild.specs.Written.{block_after, blocks_written}
 use Rattle.ssa_rebuild.proofs.WrittenLemmas.{blocks_behind, block_written, blocks_behind_push, blocks_push}
 use Rattle.ssa_rebuild.proofs.blocks.all_blocks.Goals as goal
+
+pub one_block-requires : goal.one_block-requires
+one_block-requires c =
+    let turn = YieldsList-turn (YieldsList-from_vec c.args.blocks.items (cc) (cc)) c.loop-block.yielded c.loop-block.block-iterator c.loop-block.yielded_by c.next.result c.next.new.self c.in-Some.block c.in-Some.is c.next.ensures.steps in
+    omega (arith, turn.0, c.loop-block.invariant.number, c.requires.blocks)
 
 pub loop-block-preserved : goal.loop-block-preserved
 loop-block-preserved c =
@@ -29,5 +36,4 @@ loop-block-preserved c =
           ∙ ap (λ (m : ℕ). block_after graph groups joins rows m (blocks_behind graph groups joins rows 0 first yielded) block.insts) z
           ∙ sym (blocks_behind_push graph groups joins rows 0 first yielded block);
       number = ap (λ (m : ℕ). m + 1) c.loop-block.invariant.number ∙ sym (length_push yielded block);
-      few = omega (arith, c.if-number-joins.false);
     }

@@ -3,8 +3,9 @@ use Rattle.std.specs.List.{flat_map}
 use Rattle.std.proofs.lemmas.List.{take_all}
 use Rattle.ir_ast.specs.Insts.{Instruction}
 use Rattle.ssa_rebuild.specs.Rows.{phi_entries}
-use Rattle.ssa_rebuild.proofs.RowLemmas.{grows_none, grows_both, grows_same, flat_more, take_item}
+use Rattle.ssa_rebuild.proofs.RowLemmas.{grows_none, grows_both, grows_same, flat_more}
 use Rattle.ssa_rebuild.proofs.entries.add_phis.Goals as goal
+use Rattle.list_laws.proofs.Places.{take_item}
 
 pub loop-inst-init : goal.loop-inst-init
 loop-inst-init c = grows_none c.args.rows.now.items _ (λ p within. refl)

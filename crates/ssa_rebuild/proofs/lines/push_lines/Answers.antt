@@ -4,8 +4,9 @@ use Rattle.list_laws.proofs.Places.{drop_item}
 use Rattle.ir_ast.specs.Insts.{Instruction}
 use Rattle.object_meaning.specs.TargetRuns.{plain_lines}
 use Rattle.ssa_rebuild.specs.Rows.{listed_slots, calls_of, group_list}
-use Rattle.ssa_rebuild.proofs.RowLemmas.{slots_on, calls_on, one_call, following_le}
+use Rattle.ssa_rebuild.proofs.RowLemmas.{slots_on, calls_on, one_call}
 use Rattle.ssa_rebuild.proofs.lines.push_lines.Goals as goal
+use Rattle.object_meaning.proofs.LineLaws.{following_few}
 
 pub loop-inst-preserved : goal.loop-inst-preserved
 loop-inst-preserved c =
@@ -14,7 +15,7 @@ loop-inst-preserved c =
     let inst = c.inst-item.result in
     let split = drop_item c.args.insts.now i inst c.loop-inst-test.true c.inst-item.is in
     let one = one_call (record { to = c.result_of-to.result; inst = inst }) in
-    let more = following_le c.loop-inst.next inst in
+    let more = following_few c.loop-inst.next inst in
     record {
       row = slots_on lists c.loop-inst.call c.loop-inst.next _ _ inst _ c.loop-inst.row.items c.push_line.new.row.items c.result_of-to.result c.in_ok-call.call c.following-next.result
           split c.result_of-to.ensures c.in_ok-call.ensures.call c.following-next.ensures c.loop-inst.invariant.row c.in_ok-call.ensures.row;

@@ -5,9 +5,9 @@ use Rattle.rewriting_forms.specs.Numbered.{among}
 use Rattle.statepoint_insert.specs.declared.groups.Relocate.{Relocate}
 use Rattle.statepoint_insert.specs.Groups.{GroupContent}
 use Rattle.ssa_rebuild.specs.Rows.{group_list}
-use Rattle.ssa_rebuild.proofs.RowLemmas.{take_item}
 use Rattle.ssa_rebuild.proofs.MarkLemmas.{listed_more}
 use Rattle.ssa_rebuild.proofs.listed.listed.Goals as goal
+use Rattle.list_laws.proofs.Places.{take_item}
 
 pub loop-group-init : goal.loop-group-init
 loop-group-init c v = ap (λ (ms : List Bool). get_or ms v false) c.new-marks.ensures.items

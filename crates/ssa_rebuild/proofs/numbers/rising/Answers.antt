@@ -1,7 +1,7 @@
 use Rattle.std.proofs.Common.{◌∙◌, ◌≡◌, ◌+◌, ◌++◌, ◌∷◌, [], ℕ, List, ap, sym, arith}
 use Rattle.std.specs.List.{range_with_len}
-use Rattle.ssa_rebuild.proofs.RowLaws.{range_more}
 use Rattle.ssa_rebuild.proofs.numbers.rising.Goals as goal
+use Rattle.list_laws.proofs.Ranges.{range_more}
 
 pub loop-number-preserved : goal.loop-number-preserved
 loop-number-preserved c =

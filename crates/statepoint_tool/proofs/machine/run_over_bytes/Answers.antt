@@ -11,7 +11,7 @@ use Rattle.statepoint_tool.proofs.machine.run_over_bytes.Goals as goal
 pub returns-in-Ok-clause-came : goal.returns-in-Ok-clause-came
 returns-in-Ok-clause-came g c =
     let out = sink_seen (g.O.Sink.written c.args.out.now) (g.O.Sink.written c.run_bytes.new.out) (g.O.Sink.faults c.args.out.now) (g.O.Sink.faults c.run_bytes.new.out) in
-    done-machine (module_in c.args.«module».now).content c.args.bytes.now c.args.numbers.now c.args.plan.now c.args.steps c.args.shows c.in-Ok.ran out
+    done-machine (module_in c.args.«module».now).content c.args.bytes.now c.args.job.now.input.now c.args.job.now.plan.now c.args.job.now.steps c.args.job.now.shows c.in-Ok.ran out
     c.in-Ok.ensures.ran c.status_of.result c.status_of.ensures
 
 pub returns-in-Err-BadMap-clause-came : goal.returns-in-Err-BadMap-clause-came
@@ -27,12 +27,12 @@ pub returns-in-Err-Write-clause-came : goal.returns-in-Err-Write-clause-came
 returns-in-Err-Write-clause-came g c =
     let out = sink_seen (g.O.Sink.written c.args.out.now) (g.O.Sink.written c.run_bytes.new.out) (g.O.Sink.faults c.args.out.now) (g.O.Sink.faults c.run_bytes.new.out) in (
       c.in-Err-Write.ensures.failed (ap Err c.in-Err-Write.field-0-is),
-      begun-machine (module_in c.args.«module».now).content c.args.bytes.now c.args.numbers.now c.args.plan.now c.args.steps c.args.shows out
+      begun-machine (module_in c.args.«module».now).content c.args.bytes.now c.args.job.now.input.now c.args.job.now.plan.now c.args.job.now.steps c.args.job.now.shows out
           (c.in-Err-Write.ensures.write (ap Err c.in-Err-Write.field-0-is)),
     )
 
 pub returns-in-Err-Memory-clause-came : goal.returns-in-Err-Memory-clause-came
 returns-in-Err-Memory-clause-came g c =
     let out = sink_seen (g.O.Sink.written c.args.out.now) (g.O.Sink.written c.run_bytes.new.out) (g.O.Sink.faults c.args.out.now) (g.O.Sink.faults c.run_bytes.new.out) in
-    inr (begun-machine (module_in c.args.«module».now).content c.args.bytes.now c.args.numbers.now c.args.plan.now c.args.steps c.args.shows out
+    inr (begun-machine (module_in c.args.«module».now).content c.args.bytes.now c.args.job.now.input.now c.args.job.now.plan.now c.args.job.now.steps c.args.job.now.shows out
     (c.in-Err-Memory.ensures.front (ap Err c.in-Err-Memory.field-0-is)))

@@ -7,10 +7,10 @@ use Rattle.statepoint_tool.proofs.machine.run_over_file.Goals as goal
 pub returns-in_err-bytes-clause-works : goal.returns-in_err-bytes-clause-works
 returns-in_err-bytes-clause-works g c =
     let exit = err_from_is_err_and c.from_residual.result c.from_residual.ensures.1 in
-    rw (exit.1, exit.2) (Works-untaken ReadingMap (Executing (module_in c.args.«module».now).content c.args.numbers.now c.args.plan.now c.args.steps c.args.shows)
+    rw (exit.1, exit.2) (Works-untaken ReadingMap (Executing (module_in c.args.«module».now).content c.args.job.now.input.now c.args.job.now.plan.now c.args.job.now.steps c.args.job.now.shows)
     (g.O.Sink.written c.args.out.now) (g.O.Sink.faults c.args.out.now) c.in_err-bytes.ensures.took)
 
 pub returns-clause-works : goal.returns-clause-works
 returns-clause-works g c =
-    Works-taken ReadingMap (Executing (module_in c.args.«module».now).content c.args.numbers.now c.args.plan.now c.args.steps c.args.shows) c.in_ok-bytes.ensures.took
+    Works-taken ReadingMap (Executing (module_in c.args.«module».now).content c.args.job.now.input.now c.args.job.now.plan.now c.args.job.now.steps c.args.job.now.shows) c.in_ok-bytes.ensures.took
     (rw c.deref.ensures.value at c.run_over_bytes.ensures.came)

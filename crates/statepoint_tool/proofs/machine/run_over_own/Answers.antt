@@ -11,7 +11,7 @@ pub returns-clause-came : goal.returns-clause-came
 returns-clause-came g c =
     let content = (module_in c.args.«module».now).content in
     let bytes = c.in_ok-bytes.bytes.items in
-    let next = Executing content c.args.numbers.now c.args.plan.now c.args.steps c.args.shows in
+    let next = Executing content c.args.job.now.input.now c.args.job.now.plan.now c.args.job.now.steps c.args.job.now.shows in
     Came-like (Then (ReadingMap bytes) next) (Then (comes_to (Go (map_of content))) next) c.run_over_bytes.result
     (sink_seen (g.O.Sink.written c.args.out.now) (g.O.Sink.written c.run_over_bytes.new.out) (g.O.Sink.faults c.args.out.now) (g.O.Sink.faults c.run_over_bytes.new.out))
     (own_map bytes (map_of content) next (rw c.«module».ensures at c.in_ok-bytes.ensures.is_map)) (rw c.deref.ensures.value at c.run_over_bytes.ensures.came)

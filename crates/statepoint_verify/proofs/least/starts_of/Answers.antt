@@ -2,8 +2,9 @@ use Rattle.std.proofs.Common.{◌≡◌, ◌∙◌, ◌+◌, Some, refl, ap, ari
 use Rattle.std.proofs.lemmas.Option.{slice_get_read}
 use Rattle.ir_ast.specs.Insts.{Instruction}
 use Rattle.ir_ast.specs.Blocks.{BasicBlock}
-use Rattle.statepoint_verify.proofs.LeastLemmas.{AreStartsUpTo, starts_none, starts_more, starts_step, starts_low}
+use Rattle.statepoint_verify.proofs.LeastLemmas.{AreStartsUpTo, starts_none, starts_more, starts_step}
 use Rattle.statepoint_verify.proofs.least.starts_of.Goals as goal
+use Rattle.ir_ast.proofs.FuncLaws.{starts_low}
 
 block_at : (items blocks : List BasicBlock) (k : ℕ) (block : BasicBlock) → items ≡ blocks → slice_get items k ≡ Some block → slice_get blocks k ≡ Some block
 block_at items blocks k block same at = ap (λ (xs : List BasicBlock). slice_get xs k) (sym same) ∙ at

@@ -1,9 +1,9 @@
 use Rattle.std.proofs.Common.{◌≡◌, ◌∙◌, ◌+◌, ◌≤◌, ◌++◌, true, length, take, drop, ap, sym, arith}
 use Rattle.std.proofs.lemmas.List.{length-map}
-use Rattle.list_laws.proofs.Places.{drop_item}
+use Rattle.list_laws.proofs.Places.{drop_item, seen_at}
 use Rattle.ir_lines.specs.Sections.{is_case, cases_of}
 use Rattle.ir_lines.specs.Views.{said, seen_line, seen_lines}
-use Rattle.module_build.proofs.Founds.{notes-turn, notes-all, seen-at}
+use Rattle.module_build.proofs.Founds.{notes-turn, notes-all}
 use Rattle.text_resolve.proofs.CaseLines.{IsCaseAt, case-at, cases-more, cases-stop, cases-end, not-case}
 use Rattle.module_build.proofs.CaseLemmas.{moved}
 use Rattle.text_resolve.specs.Lost.{OtherWidthAt}
@@ -14,7 +14,7 @@ pub returns-in_default : goal.returns-in_default
 returns-in_default c =
     let lines = seen_lines c.args.behind.now in
     let i = c.loop-line.line-index in
-    let at = seen-at seen_line c.args.behind.now i c.line-item.result c.loop-line-test.true c.line-item.is in
+    let at = seen_at seen_line c.args.behind.now i c.line-item.result c.loop-line-test.true c.line-item.is in
     let stop = not-case c.line-item.result.reading c.in_default.not-Case in
     record {
       row = case-stop c.args.behind.now i c.line-item.result c.loop-line.row.items (c.args.row.now.items ++ numbers_of (cases_of lines))
@@ -40,7 +40,7 @@ loop-line-preserved c =
     let lines = seen_lines c.args.behind.now in
     let i = c.loop-line.line-index in
     let l = seen_line c.line-item.result in
-    let at = seen-at seen_line c.args.behind.now i c.line-item.result c.loop-line-test.true c.line-item.is in
+    let at = seen_at seen_line c.args.behind.now i c.line-item.result c.loop-line-test.true c.line-item.is in
     let is : is_case l.says ≡ true = ap (λ r. is_case (said r)) c.in-Case.is in
     let here : IsCaseAt lines i l = case-at lines i l at is c.loop-line.invariant.cases in
     record {

@@ -9,9 +9,10 @@ use Rattle.ir_lines.specs.Modules.{block_of, insts_of, numbers_of}
 use Rattle.ir_lines.proofs.Steps.{all-at, made-more}
 use Rattle.module_build.specs.Known.{known_in}
 use Rattle.module_build.specs.Lost.{tables_in}
-use Rattle.module_build.proofs.Founds.{notes-turn, notes-all, seen-at}
+use Rattle.module_build.proofs.Founds.{notes-turn, notes-all}
 use Rattle.text_resolve.specs.Lost.{BlockLostAt}
 use Rattle.text_resolve.proofs.functions.built_blocks.Goals as goal
+use Rattle.list_laws.proofs.Places.{seen_at}
 
 pub block-requires : goal.block-requires
 block-requires c =
@@ -33,7 +34,7 @@ loop-one-preserved c = record {
       c.loop-one-test.true c.one-item.is c.in_ok-made.ensures.numbers c.loop-one.invariant.numbered;
   noted = notes-turn (BlockLostAt c.args.scope.now.form (tables_in c.args.scope.now)) (map seen_block c.args.blocks.now) c.loop-one.one-index (seen_block c.one-item.result)
       c.args.first.now.found c.loop-one.first.found c.block.new.first.found
-      (seen-at seen_block c.args.blocks.now c.loop-one.one-index c.one-item.result c.loop-one-test.true c.one-item.is) c.loop-one.invariant.noted c.in_ok-made.ensures.noted;
+      (seen_at seen_block c.args.blocks.now c.loop-one.one-index c.one-item.result c.loop-one-test.true c.one-item.is) c.loop-one.invariant.noted c.in_ok-made.ensures.noted;
 }
 
 pub returns-clause-noted : goal.returns-clause-noted

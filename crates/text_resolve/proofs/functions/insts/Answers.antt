@@ -7,10 +7,11 @@ use Rattle.ir_lines.specs.Modules.{instruction_said, insts_of, numbers_of}
 use Rattle.ir_lines.specs.Views.{said, seen_line, seen_lines}
 use Rattle.module_build.specs.Known.{known_in}
 use Rattle.module_build.specs.Lost.{tables_in}
-use Rattle.module_build.proofs.Founds.{notes-turn, notes-all, seen-at}
+use Rattle.module_build.proofs.Founds.{notes-turn, notes-all}
 use Rattle.text_resolve.specs.Lost.{LineLostAt}
 use Rattle.text_resolve.proofs.BuiltText.{lined-more}
 use Rattle.text_resolve.proofs.functions.insts.Goals as goal
+use Rattle.list_laws.proofs.Places.{seen_at}
 
 pub loop-i-preserved : goal.loop-i-preserved
 loop-i-preserved c =
@@ -26,7 +27,7 @@ loop-i-preserved c =
           c.loop-i.invariant.numbered;
       noted = notes-turn (LineLostAt c.args.scope.now.form (tables_in c.args.scope.now)) (seen_lines c.args.lines.now) c.loop-i.i (seen_line line)
           c.args.first.now.found c.loop-i.first.found c.resolve_line.new.first.found
-          (seen-at seen_line c.args.lines.now c.loop-i.i line c.loop-i-test.true c.index-lines-i.is) c.loop-i.invariant.noted c.in_ok-resolve_line.ensures.noted;
+          (seen_at seen_line c.args.lines.now c.loop-i.i line c.loop-i-test.true c.index-lines-i.is) c.loop-i.invariant.noted c.in_ok-resolve_line.ensures.noted;
     }
 
 pub returns-clause-noted : goal.returns-clause-noted

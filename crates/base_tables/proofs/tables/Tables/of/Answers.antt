@@ -7,13 +7,13 @@ use Rattle.ir_ast.specs.declared.ops.Operand.{Operand}
 use Rattle.base_tables.specs.declared.shapes.Shape.{Shape}
 use Rattle.base_tables.specs.Kinds.{Kind, kind_merged, kind_negated, origin_in}
 use Rattle.base_tables.specs.Flags.{kind_inserted}
-use Rattle.base_tables.specs.Origins.{named}
 use Rattle.base_tables.specs.Seen.{seen_shape}
 use Rattle.base_tables.specs.Tables.{ValueTables, marks_before, inserted_in, number_in, own_base_in}
 use Rattle.base_tables.specs.Users.{AreMarks}
 use Rattle.base_tables.proofs.TableLemmas.{tables_are}
 use Rattle.base_tables.proofs.UnchangedLemmas.{unchanged_are}
 use Rattle.base_tables.proofs.tables.Tables.of.Goals as goal
+use Rattle.ir_ast.specs.Operands.{named}
 
 pub returns-then-inserts_nothing : goal.returns-then-inserts_nothing
 returns-then-inserts_nothing c =

@@ -4,10 +4,10 @@ use Rattle.ir_reader.specs.declared.raw.NumberedReading.{NumberedReading}
 use Rattle.ir_lines.specs.Notes.{Notes}
 use Rattle.ir_lines.specs.Sections.{layouts_of, heads_of}
 use Rattle.ir_lines.specs.Views.{seen_line, seen_lines}
-use Rattle.ir_lines.proofs.FrontLemmas.{taken}
 use Rattle.ir_lines.proofs.NoteLemmas.{Either}
 use Rattle.ir_lines.proofs.TableLemmas.{Tops, tops-none, tops-more, again-noted, LayoutAgain, HeadAgain}
 use Rattle.ir_lines.proofs.scope.Top.of.Goals as goal
+use Rattle.list_laws.proofs.Places.{take_item}
 
 pub loop-line-init : goal.loop-line-init
 loop-line-init c =
@@ -22,7 +22,7 @@ loop-line-preserved c =
     let lines = c.args.lines.now in
     let one = c.line-item.result in
     let more : seen_lines (take (i + 1) lines) ≡ seen_lines (take i lines) ++ seen_line one ∷ []
-    = ap seen_lines (taken lines i one c.loop-line-test.true c.line-item.is) ∙ map-append seen_line (take i lines) (one ∷ []) in
+    = ap seen_lines (take_item lines i one c.loop-line-test.true c.line-item.is) ∙ map-append seen_line (take i lines) (one ∷ []) in
     let before : Tops (seen_lines (take i lines)) c.loop-line.top c.args.first.now.found c.loop-line.first.found
     = record { is = c.loop-line.invariant.is; noted = c.loop-line.invariant.noted } in
     let t = tops-more (seen_lines (take i lines)) (seen_lines (take (i + 1) lines)) (seen_line one) c.loop-line.top c.add_layout.new.self

@@ -4,8 +4,8 @@ use Rattle.object_meaning.specs.Jumps.{jumped}
 use Rattle.object_meaning.specs.States.{Frame}
 use Rattle.machine_meaning.specs.Machines.{Machine, lifted}
 use Rattle.ir_machine.specs.Executors.{machinery, seen}
-use Rattle.ir_machine.proofs.StepLemmas.{step_left}
 use Rattle.ir_machine.proofs.executor.Executor.fast_jump.Goals as goal
+use Rattle.run_tasks.proofs.StepLemmas.{step_left}
 
 pub returns : goal.returns
 returns c =

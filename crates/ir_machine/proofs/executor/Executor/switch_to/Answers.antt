@@ -2,8 +2,10 @@ use Rattle.std.proofs.Common.{List, set, sym, ap, ◌∙◌}
 use Rattle.std.specs.Prelude.{Option, Some, None, slice_get}
 use Rattle.ir_machine.specs.Executors.{seen}
 use Rattle.machine_frames.specs.declared.tasks.Task.{Task}
-use Rattle.ir_machine.proofs.TaskLemmas.{with_task, switched_some, switched_none, found_some, set_again, set_none}
+use Rattle.ir_machine.proofs.TaskLemmas.{with_task, switched_some, switched_none}
 use Rattle.ir_machine.proofs.executor.Executor.switch_to.Goals as goal
+use Rattle.list_laws.proofs.Places.{set_none, set_again}
+use Rattle.list_laws.proofs.Options.{inner_some}
 
 pub returns-in_default : goal.returns-in_default
 returns-in_default c =
@@ -15,7 +17,7 @@ returns-in_default c =
 pub returns : goal.returns
 returns c =
     let now = c.args.self.now in let machine = seen now in let tasks : List (Option Task) = now.tasks.items in
-    let found = found_some c.in-Some.run' (slice_get tasks c.args.to) (sym c.in-Some.ensures.given) in
+    let found = inner_some c.in-Some.run' (slice_get tasks c.args.to) (sym c.in-Some.ensures.given) in
     let written = c.set_task-2.ensures
     ∙ ap (λ (ts : List (Option Task)). set ts c.args.to None) (c.set_task.ensures
     ∙ ap (λ (ts : List (Option Task)). set ts now.task (Some c.replace-waits.result)) c.in-Some.ensures.tasks)

@@ -8,14 +8,15 @@ use Rattle.object_store.specs.declared.words.Word.{Word}
 use Rattle.object_store.specs.Words.{datum}
 use Rattle.ir_meaning.specs.Stacks.{Frames}
 use Rattle.ir_meaning.specs.Machines.{rest_of, exit_from, state_of, exit_of}
-use Rattle.ir_meaning.proofs.MachineLemmas.{handed_some, found_some}
+use Rattle.ir_meaning.proofs.MachineLemmas.{handed_some}
 use Rattle.ir_meaning.proofs.machine.Machine.hand_over.Goals as goal
+use Rattle.list_laws.proofs.Options.{inner_some}
 
 pub returns-clause-effect : goal.returns-clause-effect
 returns-clause-effect c =
     let code = c.args.code.now in
     let others = rest_of c.args.self.now in
-    let found = found_some c.in-Some.stack (slice_get c.args.self.now.tasks.items 0) (sym c.in-Some.ensures.given) in
+    let found = inner_some c.in-Some.stack (slice_get c.args.self.now.tasks.items 0) (sym c.in-Some.ensures.given) in
     let there : goes_on (resumed (exit_from code c.in-Some.stack (record others { task = 0; tasks = c.take_task.new.tasks.items })) (datum c.of.result))
     ≡ handed_over (exit_of code c.args.self.now) (slice_get (exit_of code c.args.self.now).tasks 0) =
     ap (λ (word : Word). goes_on (resumed (exit_from code c.in-Some.stack (record others { task = 0; tasks = c.take_task.new.tasks.items })) (datum word))) c.of.ensures

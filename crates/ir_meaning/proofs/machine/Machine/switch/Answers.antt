@@ -2,8 +2,10 @@ use Rattle.std.proofs.Common.{List, set, sym, ap, ◌∙◌}
 use Rattle.std.specs.Prelude.{Option, Some, None, slice_get}
 use Rattle.ir_meaning.specs.Stacks.{Frames}
 use Rattle.ir_meaning.specs.Machines.{Whole, rest_of, seen_of, switched_so}
-use Rattle.ir_meaning.proofs.MachineLemmas.{set_again, set_none, found_none, found_some}
+use Rattle.ir_meaning.proofs.MachineLemmas.{found_none}
 use Rattle.ir_meaning.proofs.machine.Machine.switch.Goals as goal
+use Rattle.list_laws.proofs.Places.{set_none, set_again}
+use Rattle.list_laws.proofs.Options.{inner_some}
 
 pub returns-in_default-clause-frames : goal.returns-in_default-clause-frames
 returns-in_default-clause-frames c =
@@ -16,7 +18,7 @@ returns-in_default-clause-frames c =
 pub returns-clause-frames : goal.returns-clause-frames
 returns-clause-frames c =
     let tasks : List (Option Frames) = c.args.self.now.tasks.items in
-    let found = found_some c.in-Some.stack (slice_get tasks c.args.to) (sym c.in-Some.ensures.given) in
+    let found = inner_some c.in-Some.stack (slice_get tasks c.args.to) (sym c.in-Some.ensures.given) in
     let waits = c.replace-waits.ensures.value in
     let written = c.set_task-2.ensures
     ∙ ap (λ (ts : List (Option Frames)). set ts c.args.to None) (c.set_task.ensures

@@ -3,11 +3,12 @@ use Rattle.std.proofs.lemmas.Result.{on_ok_weaker}
 use Rattle.ir_ast.specs.Objects.{number}
 use Rattle.object_meaning.specs.Lines.{following}
 use Rattle.machine_meaning.specs.Machines.{regrouped_by}
-use Rattle.machine_frames.specs.Frames.{frame_of, is_statepoint}
+use Rattle.machine_frames.specs.Frames.{frame_of}
 use Rattle.machine_lines.specs.Lines.{line_of, lines_left}
 use Rattle.machine_frames.proofs.LineLemmas.{gone_point, gone_call}
 use Rattle.object_meaning.specs.Registers.{put}
 use Rattle.machine_frames.proofs.frames.Frame.go_behind.Goals as goal
+use Rattle.ir_ast.specs.Ops.{is_statepoint}
 
 pub returns-in_ok-next : goal.returns-in_ok-next
 returns-in_ok-next c =

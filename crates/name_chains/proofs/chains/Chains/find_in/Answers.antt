@@ -1,9 +1,9 @@
 use Rattle.std.proofs.Common.{◌≡◌, ◌∙◌, ℕ, ◌<◌, List, [], length, get_or, sym, ap, subst, arith, rules}
 use Rattle.std.specs.Prelude.{map, Option, Some, None}
 use Rattle.std.specs.Str.{bytes_eq}
-use Rattle.std.proofs.lemmas.List.{get_or-map, length-map}
+use Rattle.std.proofs.lemmas.List.{get_or-map, length-map, get_or_default}
 use Rattle.name_chains.specs.Chains.{bucket_of}
-use Rattle.name_chains.proofs.ChainLemmas.{Sought, bound_of, in-range, sought-all, sought-found, sought-next, sought-none, nearer}
+use Rattle.name_chains.proofs.ChainLemmas.{Sought, bound_of, sought-all, sought-found, sought-next, sought-none, nearer}
 use Rattle.name_chains.proofs.chains.Chains.find_in.Goals as goal
 use denote.Bor.{Bor}
 
@@ -13,7 +13,7 @@ names_now names = map (λ one. one.now) names
 pub loop-at-init : goal.loop-at-init
 loop-at-init c =
     subst (λ (at : Option ℕ). Sought (length c.args.self.now.last.items) (names_now c.args.names.now) c.args.name.now at)
-    (sym (c.index-at.ensures ∙ in-range c.args.self.now.last.items c.args.bucket c.index-at.result.now None c.requires.below))
+    (sym (c.index-at.ensures ∙ get_or_default c.args.self.now.last.items c.args.bucket c.index-at.result.now None c.requires.below))
     (sought-all (names_now c.args.names.now) c.args.name.now c.args.self.now.last.items c.args.self.now.before.items c.args.bucket c.requires.chained
     c.requires.bucket c.requires.below)
 
@@ -41,7 +41,7 @@ loop-at-smaller c =
     let below : c.in-Some.place < length c.args.self.now.before.items
     = (let b : c.in-Some.place < length (names_now c.args.names.now) = sought.links.below in let w : length c.args.self.now.before.items ≡ length (names_now c.args.names.now) = c.requires.chained.whole in omega arith) in
     let next : c.index-at-in-Some.result.now ≡ get_or c.args.self.now.before.items c.in-Some.place None
-    = c.index-at-in-Some.ensures ∙ in-range c.args.self.now.before.items c.in-Some.place c.index-at-in-Some.result.now None below in
+    = c.index-at-in-Some.ensures ∙ get_or_default c.args.self.now.before.items c.in-Some.place c.index-at-in-Some.result.now None below in
     let lt : bound_of c.index-at-in-Some.result.now < bound_of c.loop-at.at
     = subst (λ (at : Option ℕ). bound_of c.index-at-in-Some.result.now < bound_of at) (sym c.in-Some.is)
     (subst (λ (at : Option ℕ). bound_of at < bound_of (Some c.in-Some.place)) (sym next)
@@ -54,7 +54,7 @@ loop-at-preserved c =
     let below : c.in-Some.place < length c.args.self.now.before.items
     = (let b : c.in-Some.place < length (names_now c.args.names.now) = sought.links.below in let w : length c.args.self.now.before.items ≡ length (names_now c.args.names.now) = c.requires.chained.whole in omega arith) in
     let next : c.index-at-in-Some.result.now ≡ get_or c.args.self.now.before.items c.in-Some.place None
-    = c.index-at-in-Some.ensures ∙ in-range c.args.self.now.before.items c.in-Some.place c.index-at-in-Some.result.now None below in
+    = c.index-at-in-Some.ensures ∙ get_or_default c.args.self.now.before.items c.in-Some.place c.index-at-in-Some.result.now None below in
     subst (λ (at : Option ℕ). Sought (length c.args.self.now.last.items) (names_now c.args.names.now) c.args.name.now at) (sym next)
     (sought-next (names_now c.args.names.now) c.args.name.now c.args.self.now.last.items c.args.self.now.before.items c.in-Some.place c.requires.chained sought
     (tested c.args.names.now c.args.name.now c.in-Some.place _ (below_all _ c.args.names.now c.args.name.now c.in-Some.place sought) ∙ sym c.if-is_same.ensures))

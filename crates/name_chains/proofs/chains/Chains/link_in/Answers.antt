@@ -1,9 +1,9 @@
 use Rattle.std.proofs.Common.{◌≡◌, ◌∙◌, ℕ, ◌<◌, List, [], ◌∷◌, ◌++◌, length, get_or, set, sym, ap, subst, rules}
 use Rattle.std.specs.Prelude.{map, Option, Some, None}
-use Rattle.std.proofs.lemmas.List.{length-map}
+use Rattle.std.proofs.lemmas.List.{length-map, get_or_default}
 use Rattle.name_chains.specs.Chains.{bucket_of, IsLinked}
 use Rattle.name_chains.specs.Places.{place_in}
-use Rattle.name_chains.proofs.ChainLemmas.{in-range, some-if-old, none-if-new, linked-again, linked-new}
+use Rattle.name_chains.proofs.ChainLemmas.{some-if-old, none-if-new, linked-again, linked-new}
 use Rattle.name_chains.proofs.chains.Chains.link_in.Goals as goal
 use denote.Bor.{Bor}
 
@@ -25,7 +25,7 @@ returns-clause-ok c =
     = subst (λ (n : ℕ). n < length c.args.self.now.last.items) (sym count) c.requires.room in
     let below = c.requires.below in
     let here : c.index.result.now ≡ get_or c.args.self.now.last.items c.args.bucket None
-    = c.index.ensures ∙ in-range c.args.self.now.last.items c.args.bucket c.index.result.now None below in
+    = c.index.ensures ∙ get_or_default c.args.self.now.last.items c.args.bucket c.index.result.now None below in
     let pushed : c.push-2.new.self.items ≡ c.args.self.now.before.items ++ get_or c.args.self.now.last.items c.args.bucket None ∷ []
     = c.in_ok-push-2.ensures.items ∙ ap (λ (x : Option ℕ). c.args.self.now.before.items ++ x ∷ []) here in
     subst (λ (n : ℕ). IsLinked (names_now c.args.names.now ++ c.args.name.now ∷ []) (set c.args.self.now.last.items c.args.bucket (Some n)) c.push-2.new.self.items) count

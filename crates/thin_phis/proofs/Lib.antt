@@ -1,0 +1,6 @@
+mod NumberLaws
+mod TextLaws
+mod RunLemmas
+mod CountLemmas
+mod VersionLaws
+mod Samples
