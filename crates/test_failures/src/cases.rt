@@ -1,16 +1,14 @@
-//! Whole calls of the tool, as the rows of the file `cases` give them.
+//! Whole calls of the tool, as the lines of the file `cases` give them.
 //!
-//! A row has two cells: the file of the module with what is set, and the words. The files in memory are `m.ll`, which is the
+//! A line has the file of the module, what is set, ` |` and the words. The files in memory are `m.ll`, which is the
 //! module, `in`, which is empty, `plan`, which is the file of `plan=FILE` or else empty, and that of `map=FILE`, if it is
 //! set, as `map`; where there is no file of the module, there is none of them.
 //! `take=N` lets the call N of `take` fail; `put=N` and `note=N` the call N of `put` on the output and on the notes,
 //! after the first `adds=M` bytes of its piece.
 
-ghost use Rattle.std.specs.Prelude.{◌≤◌, length};
-ghost use Rattle.sp_ids.specs.declared.limits.TheConstants.{FILE_BYTES};
+ghost use Rattle.std.specs.Prelude.{◌≡◌};
 
 use anyhow::Result;
-use case_files::{Part, Refusal, case_lines, parts_in, rows_in, two_cells};
 use sp_ids::limits::FILE_BYTES;
 use statepoint_tool::{Status, statepoint};
 use std::alloc::{AllocError, Global};
@@ -19,19 +17,12 @@ use tool_io::{DiskFiles, Files, MemFiles, MemSink};
 // More than any case writes.
 const ROOM: usize = 2_000;
 
-/// A call: the whole row, what is set, and the words.
-#[derive(Clone, Copy)]
-pub(crate) struct Call<'a> {
-    pub(crate) row: &'a str,
-    pub(crate) setting: &'a str,
-    pub(crate) words: &'a str,
-}
-
 pub(crate) fn show(rt: &HostRuntime) -> Result<()> {
     let alloc = rt.alloc();
-    let file = DiskFiles::new(rt).take(alloc, "cases", FILE_BYTES)?;
-    for call in calls_of(alloc, &file)? {
-        show_call(rt, call)?;
+    let lines = DiskFiles::new(rt).take(alloc, "cases", FILE_BYTES)?;
+    let lines = String::from_utf8_lossy(alloc, &lines)?;
+    for line in lines.lines() {
+        show_case(rt, line)?;
     }
     let done = Status::Done.code();
     let stray = Status::Stray.code();
@@ -39,45 +30,9 @@ pub(crate) fn show(rt: &HostRuntime) -> Result<()> {
     Ok(())
 }
 
-/// The rows of a file of cases, each a call. Each part has a title.
-pub(crate) fn calls_of(alloc: Global, file: &[u8]) -> Result<Vec<Call<'_>>>
-    requires { length file.now ≤ FILE_BYTES }
-{
-    let lines = case_lines(alloc, file)?;
-    let mut calls = Vec::new(alloc);
-    for part in &parts_in(alloc, &lines)? {
-        add_calls(alloc, &mut calls, part)?;
-    }
-    Ok(calls)
-}
-
-fn add_calls<'a>(
-    alloc: Global,
-    calls: &mut Vec<Call<'a>>,
-    part: &Part<'_, 'a>,
-) -> Result<(), Refusal> {
-    if !part.head.starts_with(' ') {
-        return Err(Refusal::Head(part.line));
-    }
-    for row in &rows_in(alloc, part.body)? {
-        let (setting, words) = two_cells(row)?;
-        let row = row.text;
-        calls.push(Call {
-            row,
-            setting,
-            words,
-        })?;
-    }
-    Ok(())
-}
-
-fn show_call(rt: &HostRuntime, call: Call) -> Result<()> {
+fn show_case(rt: &HostRuntime, line: &str) -> Result<()> {
     let alloc = rt.alloc();
-    let Call {
-        row,
-        setting,
-        words,
-    } = call;
+    let (setting, words) = line.split_once(" |").unwrap_or(("", line));
     let words = listed(alloc, words)?;
     let mut files = held(rt, setting)?;
     let mut out = sink(alloc, setting, "put=")?;
@@ -86,7 +41,7 @@ fn show_call(rt: &HostRuntime, call: Call) -> Result<()> {
     let code = status.code();
     let written = String::from_utf8_lossy(alloc, out.bytes())?;
     let said = String::from_utf8_lossy(alloc, notes.bytes())?;
-    println!(rt; "{row} -> {status:?} {code}, written {written:?}, said {said:?}")?;
+    println!(rt; "{line} -> {status:?} {code}, written {written:?}, said {said:?}")?;
     Ok(())
 }
 

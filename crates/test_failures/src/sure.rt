@@ -1,7 +1,7 @@
-//! Whole calls of the tool over files and sinks that never fail, as the rows of the file `sure` give them: the file of the module
-//! with those that are set as `plan=` and `map=`, and the words. What is shown is the status, and which files were taken.
+//! Whole calls of the tool over files and sinks that never fail, as the lines of the file `sure` give them: the file of the module,
+//! those that are set as `plan=` and `map=`, ` |` and the words. What is shown is the status, and which files were taken.
 
-use crate::cases::{Call, calls_of, listed, set_bytes};
+use crate::cases::{listed, set_bytes};
 use anyhow::Result;
 use sp_ids::limits::FILE_BYTES;
 use statepoint_tool::statepoint_surely;
@@ -11,20 +11,17 @@ use tool_io::{DiskFiles, Files, SureFiles, SureSink};
 pub(crate) fn show(rt: &HostRuntime) -> Result<()> {
     println!(rt; "whole calls over files and sinks that never fail")?;
     let alloc = rt.alloc();
-    let file = DiskFiles::new(rt).take(alloc, "sure", FILE_BYTES)?;
-    for call in calls_of(alloc, &file)? {
-        show_call(rt, call)?;
+    let lines = DiskFiles::new(rt).take(alloc, "sure", FILE_BYTES)?;
+    let lines = String::from_utf8_lossy(alloc, &lines)?;
+    for line in lines.lines() {
+        show_call(rt, line)?;
     }
     Ok(())
 }
 
-fn show_call(rt: &HostRuntime, call: Call) -> Result<()> {
+fn show_call(rt: &HostRuntime, line: &str) -> Result<()> {
     let alloc = rt.alloc();
-    let Call {
-        row,
-        setting,
-        words,
-    } = call;
+    let (setting, words) = line.split_once(" |").unwrap_or(("", line));
     let words = listed(alloc, words)?;
     let mut files = held(rt, alloc, setting)?;
     let status = statepoint_surely(
@@ -34,7 +31,7 @@ fn show_call(rt: &HostRuntime, call: Call) -> Result<()> {
         &mut SureSink::new(),
         &mut SureSink::new(),
     );
-    print!(rt; "{row} -> {status:?}, taken")?;
+    print!(rt; "{line} -> {status:?}, taken")?;
     for name in files.taken() {
         print!(rt; " {name}")?;
     }
