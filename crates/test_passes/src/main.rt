@@ -12,7 +12,10 @@ mod tallies;
 mod texts;
 mod verdicts;
 
-use cases::{Refusal, cases_of};
+ghost use Rattle.std.specs.Prelude.{◌≤◌, length};
+ghost use Rattle.sp_ids.specs.declared.limits.TheConstants.{FILE_BYTES};
+
+use cases::cases_of;
 use commands::{Command, command_of};
 use judging::judge;
 use passes::{Pass, after, why};
@@ -111,13 +114,7 @@ fn judge_files(rt: &HostRuntime, names: &[String]) -> io::Result<End> {
 fn judge_file(rt: &HostRuntime, name: &str) -> io::Result<Option<Tally>> {
     let mut files = DiskFiles::new(rt);
     match files.take(rt.alloc(), name, FILE_BYTES) {
-        Ok(bytes) => match str::from_utf8(&bytes) {
-            Ok(file) => judge_text(rt, name, file),
-            Err(error) => {
-                println!(rt; "{name}: {error}")?;
-                Ok(None)
-            }
-        },
+        Ok(file) => judge_text(rt, name, &file),
         Err(fault) => {
             println!(rt; "{name}: {fault}")?;
             Ok(None)
@@ -125,15 +122,17 @@ fn judge_file(rt: &HostRuntime, name: &str) -> io::Result<Option<Tally>> {
     }
 }
 
-fn judge_text(rt: &HostRuntime, name: &str, file: &str) -> io::Result<Option<Tally>> {
+fn judge_text(rt: &HostRuntime, name: &str, file: &[u8]) -> io::Result<Option<Tally>>
+    requires { length file.now ≤ FILE_BYTES }
+{
     match cases_of(rt.alloc(), file) {
         Ok(cases) => {
             let tally = judge(rt, rt.alloc(), name, &cases)?;
             println!(rt; "{name}: {tally}")?;
             Ok(Some(tally))
         }
-        Err(Refusal { line, why }) => {
-            println!(rt; "{name}:{line}: {why}")?;
+        Err(refusal) => {
+            println!(rt; "{name}: {refusal}")?;
             Ok(None)
         }
     }

@@ -10,6 +10,7 @@ mod verdict;
 ghost use Rattle.std.specs.Prelude.{◌≤◌, length};
 ghost use Rattle.sp_ids.specs.declared.limits.TheConstants.{FILE_BYTES};
 
+use case_files::Tally;
 use cases::{Case, cases_of};
 use paths::compare_all;
 use sp_ids::limits::FILE_BYTES;
@@ -77,13 +78,7 @@ fn judge_files(rt: &HostRuntime, names: &[&str]) -> io::Result<ExitCode> {
 fn judge_file(rt: &HostRuntime, name: &str) -> io::Result<bool> {
     let mut files = DiskFiles::new(rt);
     match files.take(rt.alloc(), name, FILE_BYTES) {
-        Ok(bytes) => match str::from_utf8(&bytes) {
-            Ok(file) => judge_text(rt, name, file),
-            Err(error) => {
-                println!(rt; "{name}: {error}")?;
-                Ok(false)
-            }
-        },
+        Ok(file) => judge_text(rt, name, &file),
         Err(fault) => {
             println!(rt; "{name}: {fault}")?;
             Ok(false)
@@ -91,16 +86,25 @@ fn judge_file(rt: &HostRuntime, name: &str) -> io::Result<bool> {
     }
 }
 
-fn judge_text(rt: &HostRuntime, name: &str, file: &str) -> io::Result<bool> {
-    let cases = cases_of(rt.alloc(), file)?;
-    let mut held: u32 = 0;
-    for case in &cases {
-        if holds(rt, name, case)? {
-            held = held.saturating_add(1);
+fn judge_text(rt: &HostRuntime, name: &str, file: &[u8]) -> io::Result<bool>
+    requires { length file.now ≤ FILE_BYTES }
+{
+    match cases_of(rt.alloc(), file) {
+        Ok(cases) => judge(rt, name, &cases),
+        Err(refusal) => {
+            println!(rt; "{name}: {refusal}")?;
+            Ok(false)
         }
     }
-    println!(rt; "{name}: {held} of {} cases hold", cases.len())?;
-    Ok(held as usize == cases.len())
+}
+
+fn judge(rt: &HostRuntime, name: &str, cases: &[Case]) -> io::Result<bool> {
+    let mut tally = Tally::new();
+    for case in cases {
+        tally.count(holds(rt, name, case)?);
+    }
+    println!(rt; "{name}: {tally}")?;
+    Ok(tally.all_hold())
 }
 
 // What the verifier says is what the case says. A text that is longer than any file may be has no verdict.
