@@ -1,0 +1,8 @@
+pub mod Spots
+pub mod Before
+pub mod Phis
+pub mod Asks
+pub mod Keys
+pub mod Asked
+pub mod Answers
+pub mod Laws
