@@ -1,0 +1,5 @@
+pub mod Onward
+pub mod Meanings
+pub mod Texts
+pub mod Statements
+pub mod Instances
