@@ -1,1 +1,2 @@
 pub mod ReturnLemmas
+mod Samples

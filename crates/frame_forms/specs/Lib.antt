@@ -1,4 +1,5 @@
 pub mod Groups
 pub mod CodeAddresses
 pub mod FrameSizes
+pub mod BundleWords
 pub mod ModuleLayouts

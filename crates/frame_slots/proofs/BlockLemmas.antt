@@ -1,11 +1,12 @@
 -- One more block of a function, and one more function of a module.
-use Rattle.std.proofs.Common.{◌≡◌, ◌∙◌, ℕ, ◌+◌, ◌<◌, List, [], ◌∷◌, ◌++◌, length, get_or, drop, map, ap, sym, arith, append_assoc, length-append}
+use Rattle.std.proofs.Common.{◌≡◌, ◌∙◌, ℕ, suc, ◌+◌, ◌<◌, Bool, true, false, cond, List, [], ◌∷◌, ◌++◌, length, get_or, drop, map, refl, ap, sym, arith, append_assoc, length-append}
 use Rattle.std.proofs.Math.ListN.{get_or-map}
 use Rattle.std.proofs.lemmas.List.{length-map}
 use Rattle.list_laws.proofs.Places.{drop_item}
 use Rattle.ir_ast.specs.Insts.{Instruction}
 use Rattle.ir_ast.specs.Blocks.{BasicBlock, EndsAtTerminator}
 use Rattle.ir_ast.specs.Funcs.{Function, LinedFunction, content_of, instructions_of}
+use Rattle.frame_forms.specs.BundleWords.{BundleWords, bundles_from, deopt_words, has_bundle}
 use Rattle.frame_forms.specs.CodeAddresses.{next_start, returns_from}
 use Rattle.frame_forms.specs.ModuleLayouts.{FunctionLayout, laid_at, laid_from}
 use Rattle.frame_forms.proofs.ReturnLemmas.{returns_joined}
@@ -47,3 +48,48 @@ laid_step done new all start next funcs contents k func same below is pushed aft
     ∙ append_assoc done (laid_at start func.content ∷ []) (laid_from (next_start start func.content) (drop (k + 1) contents))
     ∙ ap (λ (rest : List Function). done ++ laid_from start rest) (sym (drop_item contents k func.content within here))
     ∙ known
+
+-- ---- bundles
+
+bundles_more : (one : Bool) (words : BundleWords) (front back : List BundleWords)
+    → cond one (words ∷ (front ++ back)) (front ++ back) ≡ cond one (words ∷ front) front ++ back
+bundles_more true words front back = refl
+bundles_more false words front back = refl
+
+bundles_joined : (place : ℕ) (block after : List Instruction) → bundles_from place (block ++ after) ≡ bundles_from place block ++ bundles_from (place + length block) after
+bundles_joined place [] after = let none : place ≡ place + 0 = omega arith in ap (λ n. bundles_from n after) none
+bundles_joined place (inst ∷ block) after =
+    let next : place + 1 + length block ≡ place + suc (length block) = omega arith in
+    let words : BundleWords = record { place = place; words = deopt_words inst } in
+    ap (λ rest. cond (has_bundle inst) (words ∷ rest) rest) (bundles_joined (place + 1) block after ∙ ap (λ n. bundles_from (place + 1) block ++ bundles_from n after) next)
+    ∙ bundles_more (has_bundle inst) words (bundles_from (place + 1) block) (bundles_from (place + suc (length block)) after)
+
+-- the bundles of a block, and then those of the others
+pub bundles_step : (done new all : List BundleWords) (place : ℕ) (blocks : List BasicBlock) (k : ℕ) (block : BasicBlock) (insts : List Instruction)
+    → k < length blocks → block ≡ get_or blocks k block → insts ≡ block.insts → new ≡ done ++ bundles_from place insts
+    → done ++ bundles_from place (instructions_of (drop k blocks)) ≡ all
+    → new ++ bundles_from (place + length insts) (instructions_of (drop (k + 1) blocks)) ≡ all
+bundles_step done new all place blocks k block insts below is same added known =
+    let later = bundles_from (place + length insts) (instructions_of (drop (k + 1) blocks)) in
+    ap (λ front. front ++ later) added ∙ append_assoc done (bundles_from place insts) later
+    ∙ ap (λ rest. done ++ rest)
+    (sym (bundles_joined place insts (instructions_of (drop (k + 1) blocks)))
+    ∙ ap (bundles_from place) (ap (λ first. first ++ instructions_of (drop (k + 1) blocks)) same ∙ sym (instructions_at blocks k block below is)))
+    ∙ known
+
+-- one more instruction
+pub bundle_put : (done new all : List BundleWords) (place : ℕ) (inst : Instruction) (insts rest : List Instruction) (words : BundleWords) → insts ≡ inst ∷ rest
+    → has_bundle inst ≡ true → words ≡ record { place = place; words = deopt_words inst } → new ≡ done ++ words ∷ []
+    → done ++ bundles_from place insts ≡ all → new ++ bundles_from (place + 1) rest ≡ all
+bundle_put done new all place inst insts rest words split has is put known =
+    let later = bundles_from (place + 1) rest in
+    ap (λ front. front ++ later) put ∙ append_assoc done (words ∷ []) later ∙ ap (λ one. done ++ one ∷ later) is
+    ∙ ap (λ b. done ++ cond b (record { place = place; words = deopt_words inst } ∷ later) later) (sym has)
+    ∙ ap (λ xs. done ++ bundles_from place xs) (sym split) ∙ known
+
+pub bundle_left : (done all : List BundleWords) (place : ℕ) (inst : Instruction) (insts rest : List Instruction) → insts ≡ inst ∷ rest
+    → has_bundle inst ≡ false → done ++ bundles_from place insts ≡ all → done ++ bundles_from (place + 1) rest ≡ all
+bundle_left done all place inst insts rest split has known =
+    let later = bundles_from (place + 1) rest in
+    ap (λ b. done ++ cond b (record { place = place; words = deopt_words inst } ∷ later) later) (sym has)
+    ∙ ap (λ xs. done ++ bundles_from place xs) (sym split) ∙ known

@@ -4,23 +4,27 @@ ghost use Rattle.frame_forms.specs.CodeAddresses.{next_start};
 ghost use Rattle.frame_forms.specs.ModuleLayouts.{laid_at};
 ghost use Rattle.frame_slots.specs.Tables.{layouts_in, AreWithin};
 
+use crate::bundles::{Bundle, bundles_of};
 use crate::frames::frame_words;
 use crate::returns::{add_returns, count_of, statepoints_of};
 use ir_ast::Func;
 use sp_ids::Memory;
+use std::alloc::Global;
 
 /// What is laid out for a function; its return offsets stand from `first` on.
-#[derive(Clone, Copy)]
+#[derive(Drop)]
 pub(crate) struct Entry {
     pub(crate) address: u64,
     pub(crate) frame_bytes: u64,
     pub(crate) statepoints: usize,
     pub(crate) first: usize,
     pub(crate) count: usize,
+    pub(crate) bundles: Vec<Bundle>,
 }
 
 /// Adds a function that starts here.
 pub(crate) fn add(
+    alloc: Global,
     entries: &mut Vec<Entry>,
     returns: &mut Vec<u32>,
     start: u64,
@@ -38,6 +42,7 @@ pub(crate) fn add(
         statepoints: statepoints_of(func.blocks()),
         first,
         count: returns.len() - first,
+        bundles: bundles_of(alloc, func)?,
     };
     entries.push(entry)?;
     Ok(())

@@ -60,7 +60,7 @@ fn named_integers(bundle: &[(Ty, Operand)]) -> usize
         .count()
 }
 
-fn is_named_integer(ty: Ty, operand: Operand) -> bool
+pub(crate) fn is_named_integer(ty: Ty, operand: Operand) -> bool
     ensures { result ≡ is_named_integer ty operand }
 {
     matches!(ty, Ty::Int(_)) && matches!(operand, Operand::Value(_))

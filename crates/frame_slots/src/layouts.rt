@@ -1,8 +1,9 @@
 //! The layout of a module.
-ghost use Rattle.std.specs.Prelude.{◌≡◌, ◌≤◌, ◌<◌, ◌^◌, ◌+◌, ◌*◌, ◌∷◌, ◌++◌, [], length, slice_index, OnOk, IfOk};
+ghost use Rattle.std.specs.Prelude.{◌≡◌, ◌≤◌, ◌<◌, ◌^◌, ◌+◌, ◌*◌, ◌∷◌, ◌++◌, [], length, slice_index, OnOk, IfOk, IfSome, IsSome};
 ghost use Rattle.frame_forms.specs.FrameSizes.{slot};
-ghost use Rattle.frame_forms.specs.ModuleLayouts.{address_in, frame_bytes_in, layout_of, returns_in, statepoints_in};
+ghost use Rattle.frame_forms.specs.ModuleLayouts.{address_in, deopt_word_in, frame_bytes_in, layout_of, returns_in, statepoints_in};
 
+use crate::bundles::word_at;
 use crate::entries::{Entry, add, next_start};
 use ir_ast::Module;
 use sp_ids::{FuncId, Memory};
@@ -43,7 +44,7 @@ impl Layouts {
         let mut returns = Vec::new(alloc);
         let mut start = FIRST_START;
         for func in funcs {
-            add(&mut entries, &mut returns, start, func)?;
+            add(alloc, &mut entries, &mut returns, start, func)?;
             start = next_start(start, func);
         }
         Ok(Layouts { entries, returns })
@@ -87,7 +88,7 @@ impl Layouts {
         requires within { place < length (returns_in self.now func.0) }
         ensures { result ≡ slice_index (returns_in self.now func.0) place }
     {
-        let entry = self.entries[func.0 as usize];
+        let entry = &self.entries[func.0 as usize];
         self.returns[entry.first + place as usize]
     }
 
@@ -98,5 +99,19 @@ impl Layouts {
         ensures { result ≡ slot live_index }
     {
         8 * live_index
+    }
+    /// The slot of a named operand of the "deopt" bundle of the statepoint at this place of a function, by its number in
+    /// the bundle, in bytes from the stack pointer. It looks through the function's statepoints with bundles.
+    pub fn deopt_slot(&self, func: FuncId, place: u32, operand: u32) -> u32
+        requires exists { func.0 < length self.now }
+        requires kept { IsSome (deopt_word_in self.now func.0 place operand) }
+        requires small { IfSome (deopt_word_in self.now func.0 place operand) (λ word. word < 2 ^ 29) }
+        ensures { IfSome (deopt_word_in self.now func.0 place operand) (λ word. result ≡ slot word) }
+    {
+        let entry = &self.entries[func.0 as usize];
+        match word_at(&entry.bundles, place, operand) {
+            Some(word) => 8 * word as u32,
+            None => 0,
+        }
     }
 }

@@ -63,7 +63,7 @@ fn members(insts: &[Inst]) -> usize
     found
 }
 
-fn is_statepoint(inst: &Inst) -> bool
+pub(crate) fn is_statepoint(inst: &Inst) -> bool
     ensures { result ≡ is_statepoint inst.now.op }
 {
     matches!(inst.op(), Op::Statepoint { .. })

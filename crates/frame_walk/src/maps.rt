@@ -28,7 +28,13 @@ impl<'a> FrameMap for MapIndex<'a> {
 
     ghost found = { λ index. found_in index.whole };
 
+    ghost constants = { λ index. index.whole.constants };
+
     fn find(&self, return_address: u64) -> Option<RecordRef<'a>> {
         MapIndex::find(self, return_address)
+    }
+
+    fn constant(&self, index: u32) -> u64 {
+        MapIndex::constant(self, index)
     }
 }

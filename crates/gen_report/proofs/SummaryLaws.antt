@@ -29,7 +29,7 @@ pub summarized : (seed size steps : ℕ) (content after : ModuleContent) (ran : 
     → IsTargetModule after → All HasNoBundle after.funcs → IsFlippingRun after steps ran → functions ≡ length content.funcs → statepoints ≡ instructions_with is_statepoint after
     → relocates ≡ instructions_with is_relocate after → bytes ≡ length (map_bytes (map_of after)) → IsSummary seed size steps (told_of functions statepoints relocates bytes after ran)
 summarized seed size steps content after ran functions statepoints relocates bytes made source is target bare run f s r b =
-    let sound : IsSound after = record { target = target; bundles = bare; verified = rewriting_is_verified content after source is } in
+    let sound : IsSound after = record { target = target; verified = rewriting_is_verified content after source is } in
     let seen = seen_here after sound [] flipping steps run.machine run.gives in
     let meant = seen.outcome in
     let machine = run.machine in

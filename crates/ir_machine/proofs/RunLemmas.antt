@@ -1,11 +1,12 @@
 -- A run by its steps, and what it has written.
 use Rattle.std.proofs.Common.{◌≡◌, ℕ, ℤ, suc, ◌+◌, ◌-◌, ◌^◌, min, Bool, false, List, [], ◌∷◌, ◌++◌, length, Option, Some, None, refl, sym, ap, ◌∙◌, subst, arith, inl, inr}
-use Rattle.std.specs.List.{concat}
+use Rattle.std.specs.List.{All, concat}
 use Rattle.std.proofs.lemmas.List.Folds.{concat-append}
 use Rattle.tool_io.specs.Sink.{append_known, AppendsFront}
 use Rattle.tool_io.proofs.AppendLaws.{append_known-nil, append_known-then, AppendsFront-all, AppendsFront-first, AppendsFront-nothing, AppendsFront-same, AppendsFront-second}
 use Rattle.sp_ids.specs.declared.ends.End.{End}
 use Rattle.sp_ids.specs.declared.ends.End.TheVariants as stops
+use Rattle.ir_ast.specs.Bundles.{HasNoBundle}
 use Rattle.ir_ast.specs.Modules.{ModuleContent}
 use Rattle.map_bytes.specs.Maps.{StackMap}
 use Rattle.move_plan.specs.declared.plan_lines.PlanLine.{PlanLine}
@@ -26,7 +27,7 @@ use Rattle.machine_meaning.proofs.SettledLaws.{IsSoundAfter, step_sound}
 use Rattle.runs_unseen.proofs.machine_ends.EndLaws.{each_run_ends}
 use Rattle.stackmap_write.specs.ModuleMaps.{map_of}
 use Rattle.moves_unseen.specs.Waits.{IsSound}
-use Rattle.runs_unseen.proofs.MapLaws.{names_nothing}
+use Rattle.runs_unseen.proofs.MapLaws.{closing_nothing, names_nothing}
 use Rattle.runs_unseen.proofs.SeenRuns.{seen_here}
 use Rattle.tool_report.specs.Closings.{closing_line}
 use Rattle.run_texts.specs.RunTexts.{RunWrites, RunWritesQuiet, end_lines, lines_from, no_frames, printed_by, run_lines, step_lines}
@@ -39,7 +40,7 @@ use Rattle.ir_machine.specs.declared.run.Shows.{Shows}
 use Rattle.ir_machine.specs.Executors.{effect_of, told, without_words}
 use Rattle.ir_machine.specs.Traces.{StepForeseen, did_lose, is_lost, shown_lines}
 use Rattle.ir_machine.specs.Answers.{BeginsText, BeginsWhole, Follows, IsRunFrom, IsRunOver, IsRunUnseen, WritesFrontFrom, WritesFrontOver, counted_by, ended_of, printed_of, quiet_lines, step_text, unprinted}
-use Rattle.ir_machine.proofs.QuietLemmas.{closing_nothing, closing_untrapped}
+use Rattle.ir_machine.proofs.QuietLemmas.{closing_untrapped}
 
 pub follows_start : (machinery : Machinery) (trace : Bool) (machine : Machine) (old : Option (List ℕ)) → AreSettled machine.heap.stands → Follows machinery trace (unprinted machine) machine 0 old old
 follows_start machinery trace machine old settled = record {
@@ -331,10 +332,10 @@ module _ (content : ModuleContent) (map : StackMap) (input : List ℤ) (plan : L
 
 -- ---- runs of verified modules over their own maps
 
-module _ (content : ModuleContent) (sound : IsSound content) (input : List ℤ) (plan : List PlanLine) (bound : ℕ) (shows : Shows) (old new : Option (List ℕ)) where
+module _ (content : ModuleContent) (sound : IsSound content) (bundles : All HasNoBundle content.funcs) (input : List ℤ) (plan : List PlanLine) (bound : ℕ) (shows : Shows) (old new : Option (List ℕ)) where
   own_seen : (ran : Ran) → IsRunOver content (map_of content) input plan bound shows ran old new → IsRunUnseen content input plan bound shows ran old new
   own_seen ran over =
-      let writes = over.unnamed (names_nothing content) in
+      let writes = over.unnamed (names_nothing content bundles) in
       let machine = over.outcome in
       let like = seen_here content sound input plan bound machine writes.gives in
       let outcome = like.outcome in

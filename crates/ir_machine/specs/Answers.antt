@@ -10,7 +10,7 @@ use Rattle.move_plan.specs.Plans.{go}
 use Rattle.map_bytes.specs.Maps.{StackMap, IsMapOf}
 use Rattle.moving_heap.specs.Settled.{AreSettled}
 use Rattle.stackmap_write.specs.ModuleMaps.{map_of}
-use Rattle.frame_walk.specs.Maps.{FrameEntry, found_in}
+use Rattle.frame_walk.specs.Maps.{FrameEntry, deopt_places, found_in}
 use Rattle.object_meaning.specs.Runs.{Ends, Go, Reaches}
 use Rattle.object_meaning.specs.Effects.{Progress, line_count, printed_line}
 use Rattle.object_meaning.specs.Outcomes.{Outcome, whole_text}
@@ -19,7 +19,6 @@ use Rattle.object_meaning.specs.Texts.{function_name}
 use Rattle.machine_meaning.specs.Machines.{Machine, Machinery}
 use Rattle.machine_meaning.specs.MachineRuns.{MachineOutcome, machine_proceeds}
 use Rattle.machine_meaning.specs.MachineSteps.{machine_step}
-use Rattle.machine_meaning.specs.TrapLines.{deopt_places}
 use Rattle.moves_unseen.specs.Statements.{IsSeen}
 use Rattle.tool_report.specs.Closings.{closing_line}
 use Rattle.run_texts.specs.RunTexts.{RunWrites, RunWritesQuiet, end_lines, lines_from}

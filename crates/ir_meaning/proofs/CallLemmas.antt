@@ -1,6 +1,6 @@
 -- Jumps, calls, returns, new objects and tasks: what the interpreter does is the step of the meaning.
 use Rattle.std.proofs.Common.{◌≡◌, ℕ, ℤ, pos, zero, suc, ◌+◌, ◌-◌, ◌<◌, ◌≤◌, true, false, List, [], ◌∷◌, ◌++◌, length, map, drop, set, replicate, Option, Some, None, refl, sym, ap, subst, ◌∙◌, lt-ltb}
-use Rattle.std.specs.Prelude.{slice_get, unwrap_or, int_lt, unsigned_abs, ◌==◌}
+use Rattle.std.specs.Prelude.{slice_get, int_lt, unsigned_abs, ◌==◌}
 use Rattle.std.specs.List.{position}
 use Rattle.std.specs.Option.{option_map_or}
 use Rattle.std.specs.Int.{w64, cast_unsigned}

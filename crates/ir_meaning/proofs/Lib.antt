@@ -4,6 +4,7 @@ pub mod MachineLemmas
 pub mod CallLemmas
 pub mod SegmentLemmas
 pub mod OpeningLemmas
+pub mod PrintLemmas
 pub mod RunLemmas
 pub mod ReadyLemmas
 pub mod ReferenceLaws

@@ -1,18 +1,17 @@
 -- Turns, the lines at which frames stand, and frames that go on.
-use Rattle.std.proofs.Common.{◌≡◌, ℕ, zero, suc, ◌+◌, ◌<◌, ◌≤◌, List, [], ◌∷◌, map, set, Option, Some, None, refl, sym, ap, ◌∙◌, lt-ltb}
+use Rattle.std.proofs.Common.{◌≡◌, ℕ, zero, suc, ◌+◌, List, [], ◌∷◌, map, set, Option, Some, None, refl, sym, ap, ◌∙◌}
 use Rattle.std.specs.Prelude.{slice_get, unwrap_or}
 use Rattle.std.specs.Option.{option_map, option_map_or}
-use Rattle.std.proofs.lemmas.Bool.{le-ltb}
 use Rattle.std.proofs.lemmas.List.{map-set}
 use Rattle.sp_ids.specs.declared.ends.End.{End}
-use Rattle.sp_ids.specs.declared.ends.End.TheVariants.{Trap, OutOfSteps}
+use Rattle.sp_ids.specs.declared.ends.End.TheVariants.{Trap}
 use Rattle.sp_ids.specs.declared.ends.Trap.TheVariants.{Unreachable}
 use Rattle.ir_ast.specs.declared.ops.Callee.{Callee}
 use Rattle.ir_ast.specs.declared.ops.Op.{Op}
 use Rattle.ir_ast.specs.Funcs.{Function as IrFunction}
 use Rattle.ir_ast.specs.Objects.{Datum}
 use Rattle.move_plan.specs.declared.plan_lines.PlanLine.{PlanLine}
-use Rattle.object_meaning.specs.Calls.{called, stepped}
+use Rattle.object_meaning.specs.Calls.{called}
 use Rattle.object_meaning.specs.Effects.{Effect, goes_on, prints, ends}
 use Rattle.object_meaning.specs.Frames.{passed, answered_by, answered_at, resumed}
 use Rattle.object_meaning.specs.Lines.{Line}

@@ -1,11 +1,5 @@
 -- The opening of a run, and the number of `@main`.
-use Rattle.std.proofs.Common.{◌≡◌, ℕ, ℤ, ◌+◌, ◌-◌, Bool, cond, not, List, [], ◌∷◌, map, replicate, None, refl, sym, ap, ◌∙◌, arith}
-use Rattle.std.specs.Prelude.{codes, unwrap_or}
-use Rattle.std.specs.List.{prefix_len, position}
-use Rattle.std.specs.Str.{bytes_eq}
-use Rattle.std.proofs.lemmas.List.{length-map}
-use Rattle.ir_ast.specs.Funcs.{Function, LinedFunction, content_of}
-use Rattle.ir_ast.specs.Modules.{ModuleContent}
+use Rattle.std.proofs.Common.{◌≡◌, ℕ, ℤ, ◌-◌, List, [], ◌∷◌, map, replicate, None, refl, sym, ap, ◌∙◌, arith}
 use Rattle.move_plan.specs.declared.plan_lines.PlanLine.{PlanLine}
 use Rattle.ir_meaning.specs.declared.machine.Machine.{Machine}
 use Rattle.object_meaning.specs.Lines.{main_of, register_count}

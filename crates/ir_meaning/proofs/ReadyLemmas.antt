@@ -1,9 +1,9 @@
 -- The lines of source modules are what the interpreter asks for.
-use Rattle.std.proofs.Common.{◌≡◌, ℕ, zero, suc, List, [], ◌∷◌, ◌++◌, length, take, drop, get_or, sym, subst}
+use Rattle.std.proofs.Common.{◌≡◌, ℕ, zero, suc, List, [], ◌∷◌, get_or, subst}
 use Rattle.std.specs.Prelude.{slice_get}
 use Rattle.std.specs.List.{All}
 use Rattle.std.specs.Option.{option_map_or}
-use Rattle.std.proofs.lemmas.List.Elements.{All-nil, All-head, All-tail, All-same, All-take, All-drop}
+use Rattle.std.proofs.lemmas.List.Elements.{All-nil, All-head, All-tail}
 use Rattle.ir_ast.specs.declared.modules.Form.{Form}
 use Rattle.ir_ast.specs.declared.modules.Form.TheVariants.{Source}
 use Rattle.ir_ast.specs.Faultless.{OfForm}
@@ -14,7 +14,6 @@ use Rattle.ir_cfg.specs.SourceModules.{IsSourceModule}
 use Rattle.object_meaning.specs.Lines.{insts_in}
 use Rattle.flat_code.specs.Codes.{IsReadyModule}
 use Rattle.flat_code.specs.Spots.{IsReady, AllReady}
-use Rattle.object_meaning.proofs.ListLemmas.{take_front, drop_front}
 use Rattle.list_laws.proofs.Contents.{all_front, all_back}
 
 block_ready : (blocks : List BasicBlock) → AllReady (instructions_of blocks) → (number : ℕ)

@@ -1,7 +1,7 @@
 //! The reference interpreter.
 
 ghost use Rattle.std.specs.Prelude.{◌≡◌, ◌≤◌, ◌<◌, length, codes, IfOk, IfSome, OnOk, OnErr, IsErrOf};
-ghost use Rattle.std.specs.List.{position};
+ghost use Rattle.std.specs.List.{All, concat, position};
 ghost use Rattle.std.specs.Str.{bytes_eq};
 ghost use Rattle.tool_io.specs.Counts.{Rose};
 ghost use Rattle.object_meaning.specs.Lines.{main_of};
@@ -10,7 +10,8 @@ ghost use Rattle.move_plan.specs.Plans.{go};
 ghost use Rattle.flat_code.specs.Codes.{IsReadyModule};
 ghost use Rattle.object_meaning.specs.Effects.{printed_line};
 ghost use Rattle.tool_io.specs.Sink.{append_known, AppendsFront};
-ghost use Rattle.ir_meaning.specs.References.{closing_text, IsRun, IsRunFrom, WritesFrontFrom, WritesFrontOfRun, unprinted, ended_of, Wrote, WroteFront};
+ghost use Rattle.piece_writer.specs.LinePuts.{IsShort, PutsFirst, PutsLines, told_by};
+ghost use Rattle.ir_meaning.specs.References.{last_lines, IsRun, IsRunFrom, PutsFrontOfRun, PutsRun, WritesFrontFrom, WritesFrontOfRun, unprinted, ended_of, Wrote, WroteFront};
 
 use crate::machine::{Did, Machine};
 use crate::stacks::Stack;
@@ -20,21 +21,11 @@ use ir_ast::{Func, Module};
 use itoa::Buffer;
 use move_plan::Plan;
 use object_store::Objects;
+use run_tasks::Ran;
 use sp_ids::{End, FuncId, Memory, sign};
 use std::alloc::Global;
 use tool_io::{Failed, Sink};
 use waiting_frames::Spot;
-
-/// How a run ended: its end, the function that ran last, the steps and events, and the number of lines that
-/// `print_i64` wrote. Events and lines stand still at 2^64 - 1.
-#[derive(Clone, Copy, Debug, PartialEq, Eq)]
-pub struct Ran {
-    pub end: End,
-    pub func: FuncId,
-    pub steps: u64,
-    pub events: u64,
-    pub lines: u64,
-}
 
 /// Why a run is not written to its end.
 #[derive(Clone, Copy, Debug, PartialEq, Eq)]
@@ -71,7 +62,7 @@ impl From<Failed> for RefFault {
 /// each waiting frame shows of its call's "deopt" bundle (LLVM Language Reference, "Deoptimization Operand Bundles").
 ///
 /// `Write` comes only where the sink counted a fault. After it, and after `Memory`, a front of what the run
-/// writes was written.
+/// writes was written. Each line is put by one call, where none has more than 8,192 bytes.
 pub fn reference<O: Sink>(
     alloc: Global,
     module: &Module,
@@ -83,6 +74,8 @@ pub fn reference<O: Sink>(
     requires { IsReadyModule «module».now.content }
     ensures ran { IfOk result (λ ran. IsRun «module».now.content input.now (go plan.now) steps ran (O.written out.old) (O.written out.new)) }
     ensures front { OnErr result (WritesFrontOfRun «module».now.content input.now (go plan.now) steps (O.written out.old) (O.written out.new)) }
+    ensures by_one_put { OnOk result (PutsRun «module».now.content input.now (go plan.now) steps (told_by O.written O.puts out.old) (told_by O.written O.puts out.new)) }
+    ensures cut { OnErr result (PutsFrontOfRun «module».now.content input.now (go plan.now) steps (told_by O.written O.puts out.old) (told_by O.written O.puts out.new)) }
     ensures failed { IsErrOf result RefFault.Write → Rose (O.faults out.old) (O.faults out.new) }
     ensures count { O.faults out.old ≤ O.faults out.new }
 {
@@ -151,8 +144,8 @@ fn run<O: Sink>(
     out: &mut O,
 ) -> Result<Ran, RefFault>
     requires { machine.old.objects.layouts ≡ code.now.content.layouts }
-    ensures ran { IfOk result (λ ran. IsRunFrom (today code.now plan.now bound) (unprinted (state_of code.now machine.old)) ran (O.written out.old) (O.written out.new)) }
-    ensures front { OnErr result (WritesFrontFrom (today code.now plan.now bound) (unprinted (state_of code.now machine.old)) (O.written out.old) (O.written out.new)) }
+    ensures ran { IfOk result (λ ran. IsRunFrom (today code.now plan.now bound) (unprinted (state_of code.now machine.old)) ran (told_by O.written O.puts out.old) (told_by O.written O.puts out.new)) }
+    ensures front { OnErr result (WritesFrontFrom (today code.now plan.now bound) (unprinted (state_of code.now machine.old)) (told_by O.written O.puts out.old) (told_by O.written O.puts out.new)) }
     ensures failed { IsErrOf result RefFault.Write → Rose (O.faults out.old) (O.faults out.new) }
     ensures count { O.faults out.old ≤ O.faults out.new }
 {
@@ -181,8 +174,8 @@ fn ended(did: Did) -> Option<End>
 
 // Writes what a turn printed, and counts the line.
 fn write_line<O: Sink>(did: Did, lines: u64, out: &mut O) -> Result<u64, Failed>
-    ensures ok { IfOk result (λ more. Wrote did lines more (O.written out.old) (O.written out.new)) }
-    ensures err { OnErr result (WroteFront did (O.written out.old) (O.written out.new)) }
+    ensures ok { IfOk result (λ more. Wrote did lines more (told_by O.written O.puts out.old) (told_by O.written O.puts out.new)) }
+    ensures err { OnErr result (WroteFront did (told_by O.written O.puts out.old) (told_by O.written O.puts out.new)) }
     ensures failed { OnErr result (Rose (O.faults out.old) (O.faults out.new)) }
     ensures count { O.faults out.old ≤ O.faults out.new }
 {
@@ -197,8 +190,10 @@ fn write_line<O: Sink>(did: Did, lines: u64, out: &mut O) -> Result<u64, Failed>
 
 // Writes what a run shows after the last line that it prints.
 fn show_end<O: Sink>(code: &Code, end: End, machine: &Machine, out: &mut O) -> Result<(), Failed>
-    ensures ok { OnOk result (O.written out.new ≡ append_known (O.written out.old) (closing_text code.now end machine.now)) }
-    ensures err { OnErr result (AppendsFront (O.written out.old) (O.written out.new) (closing_text code.now end machine.now)) }
+    ensures ok { OnOk result (O.written out.new ≡ append_known (O.written out.old) (concat (last_lines code.now end machine.now))) }
+    ensures err { OnErr result (AppendsFront (O.written out.old) (O.written out.new) (concat (last_lines code.now end machine.now))) }
+    ensures by_one_put { All IsShort (last_lines code.now end machine.now) → OnOk result (PutsLines (told_by O.written O.puts out.old) (told_by O.written O.puts out.new) (last_lines code.now end machine.now)) }
+    ensures cut { All IsShort (last_lines code.now end machine.now) → OnErr result (PutsFirst (told_by O.written O.puts out.old) (told_by O.written O.puts out.new) (last_lines code.now end machine.now)) }
     ensures failed { OnErr result (Rose (O.faults out.old) (O.faults out.new)) }
     ensures count { O.faults out.old ≤ O.faults out.new }
 {

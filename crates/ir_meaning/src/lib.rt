@@ -7,4 +7,4 @@ mod machine;
 mod stacks;
 mod straight;
 
-pub use interpret::{Ran, RefFault, reference};
+pub use interpret::{RefFault, reference};

@@ -4,10 +4,11 @@ ghost use Rattle.std.specs.Prelude.{◌≡◌, ◌-◌, ◌++◌, ◌<◌, ◌�
 ghost use Rattle.std.specs.List.{All};
 ghost use Rattle.tool_io.specs.Counts.{Rose};
 ghost use Rattle.tool_io.specs.Sink.{append_known, AppendsFront};
+ghost use Rattle.piece_writer.specs.LinePuts.{IsShort, PutsFirst, PutsLines, told_by};
 ghost use Rattle.object_store.specs.Words.{number_word};
 ghost use Rattle.object_meaning.specs.Registers.{put};
 ghost use Rattle.flat_code.specs.Flats.{IsSizedLine, lines_done};
-ghost use Rattle.waiting_frames.specs.Shown.{frames_text};
+ghost use Rattle.waiting_frames.specs.Shown.{frames_lines, frames_text};
 ghost use Rattle.ir_meaning.specs.Straights.{held_in, outcome};
 ghost use Rattle.ir_meaning.specs.Stacks.{passed_spot, passed_frame, word, word_at, move_of, moved, entered_frames, arrived_frames};
 
@@ -94,10 +95,12 @@ impl Stack {
         self.saved.len()
     }
 
-    /// Puts what the frames that wait show at a trap.
+    /// Puts what the frames that wait show at a trap, each line by one call where none has more than 8,192 bytes.
     pub fn show<O: Sink>(&self, code: &Code, out: &mut O) -> Result<(), Failed>
         ensures ok { OnOk result (O.written out.new ≡ append_known (O.written out.old) (frames_text code.now 1 self.now.below)) }
         ensures err { OnErr result (AppendsFront (O.written out.old) (O.written out.new) (frames_text code.now 1 self.now.below)) }
+        ensures by_one_put { All IsShort (frames_lines code.now 1 self.now.below) → OnOk result (PutsLines (told_by O.written O.puts out.old) (told_by O.written O.puts out.new) (frames_lines code.now 1 self.now.below)) }
+        ensures cut { All IsShort (frames_lines code.now 1 self.now.below) → OnErr result (PutsFirst (told_by O.written O.puts out.old) (told_by O.written O.puts out.new) (frames_lines code.now 1 self.now.below)) }
         ensures failed { OnErr result (Rose (O.faults out.old) (O.faults out.new)) }
         ensures count { O.faults out.old ≤ O.faults out.new }
     {

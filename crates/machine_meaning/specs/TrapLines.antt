@@ -1,8 +1,8 @@
 -- What the frames that wait show at a trap: it is read from the stack of the running task through the map, from the caller
 -- upwards (Stack maps and patch points in LLVM, "Stack Map Format").
-use Rattle.std.specs.Prelude.{ℕ, zero, suc, ◌+◌, ◌-◌, ◌/◌, ◌%◌, ◌^◌, ◌==◌, ◌&&◌, ◌||◌, nat_le, nat_lt, pos, int_le, unsigned_abs, if◌then◌else◌, Bool, false, List, [], ◌∷◌, ◌++◌, length, take, drop, map, filter, fold, codes, decimal, Option, Some, None, slice_index}
-use Rattle.std.specs.List.{list_all, flat_map}
-use Rattle.std.specs.Option.{option_map_or}
+use Rattle.std.specs.Prelude.{ℕ, zero, suc, ◌+◌, ◌-◌, ◌%◌, ◌^◌, ◌==◌, if◌then◌else◌, List, [], ◌∷◌, ◌++◌, length, take, drop, map, fold, codes, decimal, Option, Some, None, slice_index}
+use Rattle.std.specs.Int.{w32, cast_unsigned}
+use Rattle.std.specs.List.{flat_map}
 use Rattle.std.specs.Fmt.{signed_decimal}
 use Rattle.sp_ids.specs.Numbers.{signed}
 use Rattle.sp_ids.specs.declared.ends.End.{End}
@@ -10,44 +10,10 @@ use Rattle.sp_ids.specs.declared.ends.End.TheVariants.{Trap}
 use Rattle.map_bytes.specs.declared.values.Place.{Place}
 use Rattle.moving_heap.specs.declared.stands.Stand.{Stand}
 use Rattle.moving_heap.specs.Places.{stands_at}
-use Rattle.frame_walk.specs.Maps.{FrameEntry, Pair, is_constant, is_slot, word_place, pairs_in}
+use Rattle.frame_walk.specs.Maps.{FrameEntry, Pair, is_constant, is_listed, deopt_places, usable, word_place, pairs_of}
 use Rattle.frame_walk.specs.Walks.{frame_words}
 use Rattle.object_meaning.specs.Effects.{newline}
 use Rattle.machine_meaning.specs.Machines.{Machine, Machinery}
-
--- ---- records
-
--- a constant by its place in the map's list
-abbrev pub is_listed : Place → Bool
-is_listed place = place.kind == 5
-
--- the third location of a record is the number of "deopt" locations, which follow it
-abbrev pub deopt_count : List Place → ℕ
-deopt_count (one ∷ two ∷ three ∷ rest) = unsigned_abs three.offset
-deopt_count _ = 0
-
-abbrev pub deopt_places : FrameEntry → List Place
-deopt_places one = take (deopt_count one.places) (drop 3 one.places)
-
--- the slots of pairs stand behind them
-abbrev pub pair_places : FrameEntry → List Place
-pair_places one = drop (deopt_count one.places) (drop 3 one.places)
-
--- three constants, of which the third is a number of the locations behind it
-abbrev pub opens : List Place → Bool
-opens (one ∷ two ∷ three ∷ rest) =
-    is_constant one && (is_constant two && (is_constant three && (int_le (pos 0) three.offset && nat_le (unsigned_abs three.offset) (length rest))))
-opens _ = false
-
-abbrev pub is_deopt : ℕ → Place → Bool
-is_deopt frame_bytes place = is_constant place || (is_listed place || is_slot frame_bytes place)
-
--- a usable record, which may have "deopt" locations; the stack has so many words from the frame's first one on
-abbrev pub is_readable : ℕ → FrameEntry → Bool
-is_readable left one =
-    ((one.frame_bytes % 8 == 0) && nat_lt (one.frame_bytes / 8) left)
-    && (opens one.places && (list_all (is_deopt one.frame_bytes) (deopt_places one)
-    && ((length (pair_places one) % 2 == 0) && list_all (is_slot one.frame_bytes) (pair_places one))))
 
 -- ---- values
 
@@ -71,11 +37,15 @@ shown_by stands words word None = shown_word word
 abbrev pub shown_slot : List Stand → List ℕ → List Pair → ℕ → List ℕ
 shown_slot stands words pairs place = shown_by stands words (slice_index words place) (pair_at pairs place)
 
-abbrev pub shown_place : Machinery → List Stand → List ℕ → List Pair → Place → List ℕ
-shown_place machinery stands words pairs place =
+-- a location of a frame, where the map has these constants; the place of a listed one is read by its field, which has no sign
+abbrev pub shown_at : List ℕ → List Stand → List ℕ → List Pair → Place → List ℕ
+shown_at constants stands words pairs place =
     if is_constant place then signed_decimal place.offset
-    else if is_listed place then shown_word (slice_index machinery.constants (unsigned_abs place.offset))
+    else if is_listed place then shown_word (slice_index constants (cast_unsigned w32 place.offset))
     else shown_slot stands words pairs (word_place place)
+
+abbrev pub shown_place : Machinery → List Stand → List ℕ → List Pair → Place → List ℕ
+shown_place machinery = shown_at machinery.constants
 
 -- ---- frames
 
@@ -86,7 +56,7 @@ frame_line number name (value ∷ values) =
     (codes "! " ++ decimal number ++ codes " @" ++ name ++ flat_map (λ each. codes " " ++ each) (value ∷ values) ++ newline) ∷ []
 
 abbrev pub values_of : Machinery → List Stand → List ℕ → FrameEntry → List (List ℕ)
-values_of machinery stands words one = map (shown_place machinery stands words (pairs_in (pair_places one))) (deopt_places one)
+values_of machinery stands words one = map (shown_place machinery stands words (pairs_of one)) (deopt_places one)
 
 -- a frame with this record, of a function with this name, and the frames behind it
 abbrev pub lines_with : Machinery → List Stand → ℕ → List ℕ → (ℕ → List ℕ → List (List ℕ)) → FrameEntry → Option (List ℕ) → List (List ℕ)
@@ -99,7 +69,7 @@ lines_with machinery stands number stack below one (Some name) =
 abbrev pub lines_at : Machinery → List Stand → ℕ → ℕ → List ℕ → (ℕ → List ℕ → List (List ℕ)) → Option FrameEntry → List (List ℕ)
 lines_at machinery stands number address stack below None = []
 lines_at machinery stands number address stack below (Some one) =
-    if is_readable (length stack) one then lines_with machinery stands number stack below one (machinery.name_at address) else []
+    if usable (length stack) one then lines_with machinery stands number stack below one (machinery.name_at address) else []
 
 -- the lines of a stack from a frame on, which has this number and returns to `address`; a stack of so many words has no
 -- more frames

@@ -37,6 +37,7 @@ use Rattle.moves_unseen.specs.Steps.{GivesNumber, IsArithmetic, IsNumber, StepFo
 use Rattle.moves_unseen.proofs.PassLaws.{pass_follows}
 use Rattle.moves_unseen.proofs.StandLaws.{IsAlone}
 use Rattle.moves_unseen.proofs.ValueLaws.{number_given, same_number, value_at, word_at}
+use Rattle.moves_unseen.proofs.LastLaws.{last_of}
 
 -- ---- what holds of each operator
 
@@ -296,7 +297,7 @@ module _ (content : ModuleContent) (machinery : Machinery) (setting : Setting) (
       (λ types op. absurd (not_call line.inst.op types arithmetical op))
       (λ to op managed gives_to. absurd (not_select line.inst.op arithmetical op)))
   by_answer (Err trap) =
-      both_end (Trapped trap) state (machine_of machinery state extra) (record { extra = extra; is = refl; objects = related.objects })
+      both_end (Trapped trap) state (machine_of machinery state extra) (last_of content machinery state extra related)
 
   -- related before, the machine steps as the target meaning, and related after
   pub arithmetic_follows : StepFollows content machinery (step setting state) (machine_step machinery (machine_of machinery state extra))

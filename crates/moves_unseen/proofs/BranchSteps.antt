@@ -46,6 +46,7 @@ use Rattle.moves_unseen.proofs.PlainSteps.{integer_plain, number_repeated}
 use Rattle.moves_unseen.proofs.StandLaws.{line_here}
 use Rattle.moves_unseen.proofs.ValueLaws.{same_number, value_at, word_at}
 use Rattle.moves_unseen.proofs.JumpSteps.{jump_step}
+use Rattle.moves_unseen.proofs.LastLaws.{last_of, last_running}
 
 literals_same : (cases : List Operand) → list_all is_literal cases ≡ true → map worded_operand cases ≡ cases
 literals_same [] all = refl
@@ -189,5 +190,6 @@ module _ (content : ModuleContent) (target : IsTargetModule content) (map_given 
     where
       by : (b : Bool) → StepFollows content machinery (if b then ends (Trapped Executed) (record state { steps = state.steps + 1 }) else ends OutOfSteps state)
           (lifted machine (if b then ends (Trapped Executed) (record machine.state { steps = state.steps + 1 }) else ends OutOfSteps machine.state))
-      by true = both_end (Trapped Executed) (record state { steps = state.steps + 1 }) (machine_of machinery (record state { steps = state.steps + 1 }) extra) (record { extra = extra; is = refl; objects = related.objects })
-      by false = both_end OutOfSteps state machine (record { extra = extra; is = refl; objects = related.objects })
+      by true = both_end (Trapped Executed) (record state { steps = state.steps + 1 }) (machine_of machinery (record state { steps = state.steps + 1 }) extra)
+          (last_running content machinery (record state { steps = state.steps + 1 }) extra related.objects related.running related.below)
+      by false = both_end OutOfSteps state machine (last_of content machinery state extra related)

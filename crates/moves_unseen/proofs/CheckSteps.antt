@@ -45,6 +45,7 @@ use Rattle.moves_unseen.proofs.PassLaws.{pass_follows}
 use Rattle.moves_unseen.proofs.StandLaws.{IsAlone}
 use Rattle.moves_unseen.proofs.ValueLaws.{same_number, value_at, word_at}
 use Rattle.machine_meaning.proofs.AddressLaws.{none_or}
+use Rattle.moves_unseen.proofs.LastLaws.{last_of}
 
 -- ---- the traps of accesses
 
@@ -176,7 +177,7 @@ module _ (content : ModuleContent) (machinery : Machinery) (setting : Setting) (
       (both_go (passed state line rest nothing) (passes machine (worded line) (map worded rest) 0) (passes_so place is_so))
   by_access (Err trap) is_so =
       subst (StepFollows content machinery (ends (Trapped trap) state)) (sym (denied_so machine trap (access_trap content.layouts state.objects asked to trap is_so)))
-      (both_end (Trapped trap) state machine (record { extra = extra; is = refl; objects = related.objects }))
+      (both_end (Trapped trap) state machine (last_of content machinery state extra related))
 
   -- related before, the machine steps as the target meaning, and related after
   pub check_follows : StepFollows content machinery (step setting state) (machine_step machinery (machine_of machinery state extra))

@@ -63,6 +63,7 @@ use Rattle.moves_unseen.proofs.StandLaws.{IsAlone, behind_alone, line_here}
 use Rattle.moves_unseen.proofs.ValueLaws.{same_number, value_at}
 use Rattle.ir_ast.proofs.OpLaws.{phi_is}
 use Rattle.moving_heap.proofs.VerdictLemmas.{event_none}
+use Rattle.moves_unseen.proofs.LastLaws.{last_of}
 
 jump_alone : (line : Line) (op : Op) → line.inst.op ≡ op → IsJump op → IsAlone line
 jump_alone line _ is jumps = record { statepoint = ap is_statepoint is; member = ap is_member is; phi = ap is_phi is }
@@ -324,4 +325,4 @@ module _ (content : ModuleContent) (target : IsTargetModule content) (map_given 
       by : (b : Bool) → StepFollows content machinery (if b then jumped setting to next else ends OutOfSteps state)
           (lifted machine (if b then jumped machinery.setting to (record machine.state { steps = state.steps + 1 }) else ends OutOfSteps machine.state))
       by true = jumped_so
-      by false = both_end OutOfSteps state machine (record { extra = extra; is = refl; objects = related.objects })
+      by false = both_end OutOfSteps state machine (last_of content machinery state extra related)

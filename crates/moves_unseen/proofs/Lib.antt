@@ -9,6 +9,7 @@ pub mod ValueLaws
 pub mod ComparisonLaws
 pub mod StandLaws
 mod Samples
+pub mod LastLaws
 pub mod PassLaws
 pub mod ArithmeticLaws
 pub mod PointerLaws

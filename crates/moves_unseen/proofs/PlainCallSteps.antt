@@ -32,6 +32,7 @@ use Rattle.moves_unseen.specs.Steps.{IsNumber, StepFollows, both_end, both_go, b
 use Rattle.moves_unseen.proofs.PassLaws.{pass_follows}
 use Rattle.moves_unseen.proofs.StandLaws.{IsAlone}
 use Rattle.moves_unseen.proofs.ValueLaws.{number_given, same_number, value_at, word_at}
+use Rattle.moves_unseen.proofs.LastLaws.{last_of}
 
 same_callee : (callee : Callee) (types others : List Ty) (op : Op) → op ≡ Call callee types → op ≡ Call Check others → callee ≡ Check
 same_callee callee types others op one other = cc
@@ -125,7 +126,7 @@ module _ (content : ModuleContent) (machinery : Machinery) (setting : Setting) (
 
   took : (numbers : List ℤ) → state.input ≡ numbers → line.inst.op ≡ Call Read types → (given : ℕ) → line.to ≡ Some given → (ty : Ty) → slice_get (value_types related.running.func) given ≡ Some ty
       → StepFollows content machinery (taking state (passed state line rest) numbers) (lifted machine (taking machine.state (λ answer. (gone_on answer machine).state) numbers))
-  took [] input_is op_is given gives ty typed = both_end (Trapped Input) state machine (record { extra = extra; is = refl; objects = related.objects })
+  took [] input_is op_is given gives ty typed = both_end (Trapped Input) state machine (last_of content machinery state extra related)
   took (first ∷ more) input_is op_is given gives ty typed =
       let made = cast_unsigned w64 first in
       let follows = with_answer content machinery state extra related line rest is Read types op_is read_is_no_check (cast_unsigned w64 first) given gives ty typed in

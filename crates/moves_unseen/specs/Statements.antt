@@ -1,13 +1,12 @@
 -- What is proved of moves, and the law of whole runs.
 use Rattle.std.specs.Prelude.{◌≡◌, ℕ, ℤ, ◌+◌, ◌==◌, ◌&&◌, nat_lt, true, false, List, [], ◌∷◌, ◌++◌, map, slice_get, Option, Some, None, Ok}
-use Rattle.std.specs.List.{All, sum_by}
+use Rattle.std.specs.List.{sum_by}
 use Rattle.ir_ast.specs.declared.cells.Cell.{Cell}
 use Rattle.ir_ast.specs.declared.ops.Elem.{Elem}
 use Rattle.ir_ast.specs.declared.ops.Callee.TheVariants.{Check, Print, Read, Same}
 use Rattle.ir_ast.specs.declared.ops.Op.TheVariants.{Call, Gep, Icmp, Load, Select, Store, Unreachable}
 use Rattle.ir_ast.specs.declared.ops.Pred.{Pred}
 use Rattle.ir_ast.specs.declared.types.Ty.{Ty}
-use Rattle.ir_ast.specs.Bundles.{HasNoBundle}
 use Rattle.ir_ast.specs.Cells.{type_of}
 use Rattle.ir_ast.specs.Layouts.{ObjectLayout}
 use Rattle.ir_ast.specs.Modules.{ModuleContent}
@@ -256,6 +255,6 @@ pub record IsSeen (content : ModuleContent) (outcome : Outcome) (machine : Machi
 
 -- over the map of a verified module moves are never noticed
 abbrev pub MovesAreUnseen : Type 0
-MovesAreUnseen = (content : ModuleContent) → IsTargetModule content → All HasNoBundle content.funcs → IsVerified content
+MovesAreUnseen = (content : ModuleContent) → IsTargetModule content → IsVerified content
     → (input : List ℤ) (plan : List PlanLine) (bound : ℕ) (outcome : Outcome) → TargetGives content input (go plan) bound outcome
     → (machine : MachineOutcome) × (MachineGives content (map_of content) input plan bound machine × IsSeen content outcome machine)

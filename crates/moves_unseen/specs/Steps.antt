@@ -1,5 +1,6 @@
 -- A step of the target meaning, and that of the machine.
-use Rattle.std.specs.Prelude.{◌≡◌, ℕ, true, false, List, Some, slice_get}
+use Rattle.std.specs.Prelude.{◌≡◌, ℕ, true, false, List, length, Some, slice_get}
+use Rattle.std.specs.List.{AllZip}
 use Rattle.sp_ids.specs.declared.ends.End.{End}
 use Rattle.ir_ast.specs.declared.cells.Cell.{Cell}
 use Rattle.ir_ast.specs.declared.cells.Cell.TheVariants.{I64, Ptr}
@@ -20,18 +21,22 @@ use Rattle.object_meaning.specs.Registers.{operand, number_in}
 use Rattle.object_meaning.specs.Effects.{Effect, goes_on, prints, ends}
 use Rattle.object_meaning.specs.Lines.{Line}
 use Rattle.object_meaning.specs.States.{State}
+use Rattle.machine_meaning.specs.Code.{words_in}
 use Rattle.machine_meaning.specs.Machines.{Machine, Machinery}
 use Rattle.pair_facts.specs.declared.bases.Base.TheVariants.{Named}
 use Rattle.pair_facts.specs.Pairs.{Pairs}
 use Rattle.pair_facts.specs.Lines.{line_before, operand_at}
+use Rattle.moves_unseen.specs.Frames.{IsWaiting}
 use Rattle.moves_unseen.specs.Objects.{AreHeld}
 use Rattle.moves_unseen.specs.States.{Extra, Follows, machine_of}
 
--- the last states of a run: nothing is asked of frames
+-- the last states of a run: of the running frame no more is asked than how many words it has
 pub record IsLast (content : ModuleContent) (machinery : Machinery) (state : State) (machine : Machine) : Type 0 where
   pub extra : Extra
   pub is : machine ≡ machine_of machinery state extra
   pub objects : AreHeld content.layouts state.objects extra.heap.stands extra.heap.contents
+  pub below : AllZip (IsWaiting content extra.heap.stands) state.below extra.below
+  pub room : length extra.running.slots ≡ words_in content state.running.func
 
 -- both do the same, and the relation holds after it
 pub data StepFollows (content : ModuleContent) (machinery : Machinery) : Effect State → Effect Machine → Type 0 where

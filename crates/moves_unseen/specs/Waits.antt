@@ -1,19 +1,22 @@
 -- Frames that wait: how a running frame comes to wait at its statepoint, how it goes on behind the group, what a walk over the
 -- stack of a task makes of its frames, and the lines that wait. Each law is proved in a crate of its own.
-use Rattle.std.specs.Prelude.{◌≡◌, ⊤, ℕ, ◌<◌, true, false, List, [], ◌∷◌, ◌++◌, length, map, drop, Option, Some, Ok}
-use Rattle.std.specs.List.{All, AllZip, Contains}
+use Rattle.std.specs.Prelude.{◌≡◌, ⊤, ℕ, ◌<◌, true, false, List, [], ◌∷◌, ◌++◌, length, map, filter, drop, Option, Some, Ok}
+use Rattle.std.specs.List.{AllZip, Contains}
 use Rattle.sp_ids.specs.declared.ids.FuncId.{FuncId}
 use Rattle.ir_ast.specs.declared.ops.Callee.{Callee}
 use Rattle.ir_ast.specs.declared.ops.Callee.TheVariants as callees
 use Rattle.ir_ast.specs.declared.ops.Op.{Op}
+use Rattle.ir_ast.specs.declared.ops.Operand.{Operand}
 use Rattle.ir_ast.specs.declared.ops.Op.TheVariants.{GcRelocate, GcResult, Phi, Ret, Statepoint}
 use Rattle.ir_ast.specs.declared.types.Ty.{Ty}
-use Rattle.ir_ast.specs.Bundles.{HasNoBundle}
+use Rattle.ir_ast.specs.Insts.{Instruction}
 use Rattle.ir_ast.specs.Modules.{ModuleContent}
 use Rattle.ir_ast.specs.Objects.{Datum, Object, number}
 use Rattle.ir_ast.specs.Types.{is_pointer}
 use Rattle.ir_cfg.specs.TargetModules.{IsTargetModule}
-use Rattle.frame_walk.specs.Maps.{FrameEntry, Pair, usable, pairs_of}
+use Rattle.frame_forms.specs.FrameSizes.{is_named_integer}
+use Rattle.map_bytes.specs.declared.values.Place.{Place}
+use Rattle.frame_walk.specs.Maps.{FrameEntry, Pair, usable, pairs_of, deopt_places as deopts_of}
 use Rattle.frame_walk.specs.Walks.{frame_words}
 use Rattle.move_plan.specs.declared.plan_lines.Move.{Move}
 use Rattle.move_plan.specs.declared.plan_lines.PlanLine.{PlanLine}
@@ -24,13 +27,15 @@ use Rattle.moving_heap.specs.Places.{carried, group_moves}
 use Rattle.moving_heap.specs.Settled.{AreSettled}
 use Rattle.object_meaning.specs.Frames.{answered}
 use Rattle.object_meaning.specs.Lines.{Line}
+use Rattle.object_meaning.specs.Numbers.{sign_extended, width_of}
 use Rattle.object_meaning.specs.Registers.{number_in, pointer_in}
 use Rattle.object_meaning.specs.States.{Frame, State}
 use Rattle.object_meaning.specs.Steps.{step}
 use Rattle.object_meaning.specs.TargetRuns.{target_setting}
 use Rattle.pair_facts.specs.Faults.{IsVerified}
 use Rattle.pair_facts.specs.Lines.{lines_at, group_in}
-use Rattle.stackmap_write.specs.ModuleMaps.{map_of}
+use Rattle.stackmap_write.specs.Constants.{constants_of}
+use Rattle.stackmap_write.specs.ModuleMaps.{deopt_places, map_of}
 use Rattle.machine_meaning.specs.Code.{machinery_of}
 use Rattle.machine_meaning.specs.Machines.{Machinery, gone_from, over, return_address, spilled}
 use Rattle.machine_meaning.specs.MachineSteps.{machine_step}
@@ -45,14 +50,23 @@ use Rattle.moves_unseen.specs.Steps.{StepFollows}
 -- what is asked of a module
 pub record IsSound (content : ModuleContent) : Type 0 where
   pub target : IsTargetModule content
-  pub bundles : All HasNoBundle content.funcs
   pub verified : IsVerified content
 
 -- ---- a running frame comes to wait
 
--- the words of a frame that waits at a statepoint with so many arguments: its live entries are in its slots
+-- an integer that a bundle names, sign-extended
+abbrev pub kept_word : List ℕ → Ty × Operand → ℕ
+kept_word words entry = sign_extended (width_of entry.0) 64 (word_in words entry.1)
+
+-- what a frame with these words keeps at a statepoint with so many arguments: the live entries, then the integers that its
+-- bundle names
+abbrev pub words_kept : List ℕ → Instruction → ℕ → List ℕ
+words_kept words call arguments =
+    map (word_in words) (drop arguments call.operands) ++ map (kept_word words) (filter (λ entry. is_named_integer entry.0 entry.1) call.bundle)
+
+-- the words of a frame that waits there: they are in its slots
 abbrev pub spilled_words : FrameWords → Line → ℕ → FrameWords
-spilled_words held line arguments = record held { slots = over (map (word_in held.words) (drop arguments line.inst.operands)) held.slots }
+spilled_words held line arguments = record held { slots = over (words_kept held.words line.inst arguments) held.slots }
 
 -- a running frame that stands at a statepoint waits there, once its entries are in its slots
 abbrev pub RunningFramesWait : Type 0
@@ -89,19 +103,22 @@ WaitingFramesGoOn = (content : ModuleContent) → IsSound content → (objects :
 
 -- ---- the walk
 
--- the record that the map of the module has of a frame that waits
-pub record IsRecorded (machinery : Machinery) (frame : Frame) (held : FrameWords) (pairs : List Pair) : Type 0 where
+-- the record that the map of the module has of a frame that waits, with these "deopt" locations, and the name of its function
+pub record IsRecorded (machinery : Machinery) (frame : Frame) (held : FrameWords) (pairs : List Pair) (deopts : List Place) (name : List ℕ) : Type 0 where
   pub entry : FrameEntry
   pub found : machinery.found (return_address machinery (worded_frame frame held.words)) ≡ Some entry
   pub returns : return_address machinery (worded_frame frame held.words) ≡ 0 → ⊥
   pub size : frame_words entry ≡ length held.slots
   pub fits : (left : ℕ) → length held.slots < left → usable left entry ≡ true
   pub pairs_are : pairs_of entry ≡ pairs
+  pub deopts_are : deopts_of entry ≡ deopts
+  pub named : machinery.name_at (return_address machinery (worded_frame frame held.words)) ≡ Some name
 
 abbrev pub RecordsAreFound : Type 0
 RecordsAreFound = (content : ModuleContent) → IsSound content → (plan : List PlanLine) (bound : ℕ) (stands : List Stand) (frame : Frame) (held : FrameWords)
     (waiting : IsWaiting content stands frame held)
     → IsRecorded (machinery_of content (map_of content) plan bound) frame held (group_pairs (lines_at waiting.func frame.block) waiting.place)
+    (deopt_places (constants_of content) waiting.call.inst) waiting.func.name
 
 -- the frames of a task after the walk of an event: their registers hold what they held, and their slots the words of after the moves
 pub record IsWalked (content : ModuleContent) (machinery : Machinery) (moves : List Moved) (stands : List Stand) (frames : List Frame) (helds : List FrameWords) : Type 0 where

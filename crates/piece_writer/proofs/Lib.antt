@@ -1,3 +1,4 @@
 pub mod EndLemmas
+pub mod LineLaws
 pub mod RowLemmas
 pub mod SinkLemmas

@@ -1,3 +1,4 @@
+pub mod LinePuts
 pub mod Lists
 pub mod Writing
 pub mod WritingLaws

@@ -65,6 +65,16 @@ abbrev pub Adds : {S : Type 0} → (S → Option (List ℕ)) → (S → ℕ) →
 Adds written faults old new bytes =
     (new.out.ghost_name ≡ old.out.ghost_name) × Grew (writing written faults old) (writing written faults new) bytes
 
+-- the same of a failure
+abbrev pub Falls : {S : Type 0} → (S → Option (List ℕ)) → (S → ℕ) → PieceWriter S → PieceWriter S → List ℕ → Type 0
+Falls written faults old new bytes =
+    (new.out.ghost_name ≡ old.out.ghost_name) × Fell (writing written faults old) (writing written faults new) bytes
+
+-- these bytes have no room behind those that are held
+abbrev pub LackRoom : (held bytes : List ℕ) → Type 0
+LackRoom held bytes = ¬ (length (held ++ bytes) ≤ 8192)
+
+-- where there is room nothing fails
 abbrev pub Fails : {S : Type 0} → (S → Option (List ℕ)) → (S → ℕ) → PieceWriter S → PieceWriter S → List ℕ → Type 0
 Fails written faults old new bytes =
-    (new.out.ghost_name ≡ old.out.ghost_name) × Fell (writing written faults old) (writing written faults new) bytes
+    (new.out.ghost_name ≡ old.out.ghost_name) × Fell (writing written faults old) (writing written faults new) bytes × LackRoom old.held bytes

@@ -5,7 +5,7 @@ use Rattle.std.proofs.lemmas.List.{length-append}
 use Rattle.std.proofs.Math.Nat.{le-add_right, le_refl, le_trans}
 use Rattle.tool_io.proofs.AppendLaws.{append_known-nil, append_known-then, AppendsFront-first, AppendsFront-same, AppendsFront-among}
 use Rattle.tool_io.proofs.CountLaws.{Rose-earlier}
-use Rattle.piece_writer.specs.Writing.{Writing, IsSameSink, Grew, Fell, Waits}
+use Rattle.piece_writer.specs.Writing.{Writing, IsSameSink, Grew, Fell, LackRoom, Waits}
 
 IsSameSink-then : {old mid new : Writing} → IsSameSink old mid → IsSameSink mid new → IsSameSink old new
 IsSameSink-then one two = record { written = two.written ∙ one.written; faults = two.faults ∙ one.faults }
@@ -64,8 +64,12 @@ short_front : (xs ys : List ℕ) (most : ℕ) → length (xs ++ ys) ≤ most →
 short_front xs ys most short =
     le_trans (le-add_right (length xs) (length ys)) (subst (λ (n : ℕ). n ≤ most) (length-append xs ys) short)
 
-module _ (old_held mid_held new_held : List ℕ) (old_puts mid_puts new_puts : Option (List (List ℕ))) (first second : List ℕ)
-    (one : Waits old_held mid_held old_puts mid_puts first) (two : Waits mid_held new_held mid_puts new_puts second) where
+pub LackRoom-first : (held first second : List ℕ) → LackRoom held first → LackRoom held (first ++ second)
+LackRoom-first held first second lacks = λ fits.
+    lacks (short_front (held ++ first) second 8192 (subst (λ (bytes : List ℕ). length bytes ≤ 8192) (sym (append_assoc held first second)) fits))
+
+module _ (old_held mid_held : List ℕ) (old_puts mid_puts : Option (List (List ℕ))) (first second : List ℕ)
+    (one : Waits old_held mid_held old_puts mid_puts first) where
   first_fits : length (old_held ++ (first ++ second)) ≤ 8192 → length (old_held ++ first) ≤ 8192
   first_fits fits =
       short_front (old_held ++ first) second 8192 (subst (λ (bytes : List ℕ). length bytes ≤ 8192) (sym (append_assoc old_held first second)) fits)
@@ -75,8 +79,12 @@ module _ (old_held mid_held new_held : List ℕ) (old_puts mid_puts new_puts : O
       subst (λ (held : List ℕ). length (held ++ second) ≤ 8192) (sym (one.held (first_fits fits)))
       (subst (λ (bytes : List ℕ). length bytes ≤ 8192) (sym (append_assoc old_held first second)) fits)
 
-  pub Waits-both : Waits old_held new_held old_puts new_puts (first ++ second)
-  Waits-both = record {
-    held = λ fits. two.held (second_fits fits) ∙ (ap (λ held. held ++ second) (one.held (first_fits fits)) ∙ append_assoc old_held first second);
-    unput = λ fits. two.unput (second_fits fits) ∙ one.unput (first_fits fits);
-  }
+  pub LackRoom-second : LackRoom mid_held second → LackRoom old_held (first ++ second)
+  LackRoom-second lacks = λ fits. lacks (second_fits fits)
+
+  module _ (new_held : List ℕ) (new_puts : Option (List (List ℕ))) (two : Waits mid_held new_held mid_puts new_puts second) where
+    pub Waits-both : Waits old_held new_held old_puts new_puts (first ++ second)
+    Waits-both = record {
+      held = λ fits. two.held (second_fits fits) ∙ (ap (λ held. held ++ second) (one.held (first_fits fits)) ∙ append_assoc old_held first second);
+      unput = λ fits. two.unput (second_fits fits) ∙ one.unput (first_fits fits);
+    }

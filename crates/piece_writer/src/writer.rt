@@ -2,8 +2,8 @@
 ghost use Rattle.std.specs.Prelude.{◌≡◌, ◌++◌, [], true, false, OnOk, OnErr};
 ghost use Rattle.std.proofs.Common.{◌∙◌, refl};
 ghost use Rattle.tool_io.specs.Told.{add_told};
-ghost use Rattle.piece_writer.specs.Writing.{writing, ended, IsInto, Grew, Fell, Adds, Takes, Fails};
-ghost use Rattle.piece_writer.specs.WritingLaws.{Grew-nothing, Grew-both, Fell-first, Fell-second, Waits-nothing, Waits-both};
+ghost use Rattle.piece_writer.specs.Writing.{writing, ended, IsInto, Grew, Fell, Adds, Takes, Falls, Fails};
+ghost use Rattle.piece_writer.specs.WritingLaws.{Grew-nothing, Grew-both, Fell-first, Fell-second, LackRoom-first, LackRoom-second, Waits-nothing, Waits-both};
 
 use crate::PieceSink;
 use crate::held::Held;
@@ -38,7 +38,7 @@ impl<'a, S: Sink> PieceWriter<'a, S> {
         requires { self.old.failed ≡ false }
         ensures ok { OnOk result (Adds S.written S.faults self.old self.new []) }
         ensures empty { OnOk result (self.new.held ≡ []) }
-        ensures err { OnErr result (Fails S.written S.faults self.old self.new []) }
+        ensures err { OnErr result (Falls S.written S.faults self.old self.new []) }
     {
         self.failed = true;
         self.out.put(self.held.bytes())?;
@@ -53,7 +53,7 @@ impl<'a, S: Sink> PieceWriter<'a, S> {
     #[inline(never)]
     fn put_past(&mut self, bytes: &[u8]) -> Result<(), Failed>
         ensures ok { OnOk result (Adds S.written S.faults self.old self.new bytes.now) }
-        ensures err { OnErr result (Fails S.written S.faults self.old self.new bytes.now) }
+        ensures err { OnErr result (Falls S.written S.faults self.old self.new bytes.now) }
     {
         if self.failed {
             return Err(Failed);
@@ -95,7 +95,7 @@ impl<'a, S: Sink> PieceWriter<'a, S> {
         requires sound { self.old.failed ≡ false }
         requires empty { self.old.held ≡ [] }
         ensures ok { OnOk result (Adds S.written S.faults self.old self.new bytes.now) }
-        ensures err { OnErr result (Fails S.written S.faults self.old self.new bytes.now) }
+        ensures err { OnErr result (Falls S.written S.faults self.old self.new bytes.now) }
     {
         self.failed = true;
         self.out.put(bytes)?;
@@ -108,6 +108,7 @@ impl<'a, S: Sink> PieceWriter<'a, S> {
         ensures ok { OnOk result (Grew (writing S.written S.faults self.entry) (ended (S.written self.exit.0.now) (S.faults self.exit.0.now) false) []) }
         ensures err { OnErr result (Fell (writing S.written S.faults self.entry) (ended (S.written self.exit.0.now) (S.faults self.exit.0.now) true) []) }
         ensures once { OnOk result (S.puts self.exit.0.now ≡ add_told (S.puts self.entry.out.now) self.entry.held) }
+        ensures unput { OnErr result (S.puts self.exit.0.now ≡ S.puts self.entry.out.now) }
     {
         let PieceWriter { out, held, failed } = self;
         if failed {
@@ -125,11 +126,11 @@ impl<S: Sink> PieceSink for PieceWriter<'_, S> {
 
     ghost took_nothing = { λ now. (refl, Grew-nothing (writing S.written S.faults now), Waits-nothing now.held (S.puts now.out.now)) };
 
-    ghost took_both = { λ old mid new first second one two. (two.0 ∙ one.0, Grew-both _ _ _ first second one.1 two.1, Waits-both _ _ _ _ _ _ first second one.2 two.2) };
+    ghost took_both = { λ old mid new first second one two. (two.0 ∙ one.0, Grew-both _ _ _ first second one.1 two.1, Waits-both _ _ _ _ first second one.2 _ _ two.2) };
 
-    ghost failed_in_first = { λ old new first second failed. (failed.0, Fell-first _ _ first second failed.1) };
+    ghost failed_in_first = { λ old new first second failed. (failed.0, Fell-first _ _ first second failed.1, LackRoom-first old.held first second failed.2) };
 
-    ghost failed_in_second = { λ old mid new first second one failed. (failed.0 ∙ one.0, Fell-second _ _ _ first second one.1 failed.1) };
+    ghost failed_in_second = { λ old mid new first second one failed. (failed.0 ∙ one.0, Fell-second _ _ _ first second one.1 failed.1, LackRoom-second _ _ _ _ first second one.2 failed.2) };
 
     #[inline(always)]
     fn put(&mut self, bytes: &[u8]) -> Result<(), Failed> {

@@ -2,8 +2,7 @@
 use Rattle.std.proofs.Common.{◌≡◌, ℕ, ℤ, List, [], ◌∷◌, ◌++◌, reverse, refl, sym, ap, ◌∙◌, append_assoc}
 use Rattle.std.proofs.lemmas.List.{append-nil, reverse-append}
 use Rattle.std.proofs.lemmas.List.Folds.{concat-append}
-use Rattle.std.specs.List.{All, concat}
-use Rattle.ir_ast.specs.Bundles.{HasNoBundle}
+use Rattle.std.specs.List.{concat}
 use Rattle.ir_ast.specs.Modules.{ModuleContent}
 use Rattle.ir_cfg.specs.SourceModules.{IsSourceModule}
 use Rattle.move_plan.specs.Plans.{go}
@@ -19,7 +18,6 @@ use Rattle.runs_unseen.specs.MachineEnds.{PrintsMore}
 use Rattle.runs_unseen.proofs.machine_ends.EndLaws.{each_run_ends}
 use Rattle.runs_unseen.proofs.machine_ends.PrintLaws.{printed_first}
 use Rattle.sp_rewrite.specs.Statements.{IsRewritten}
-use Rattle.sp_rewrite.proofs.BareLaws.{no_bundle}
 use Rattle.sp_rewrite.proofs.RewrittenLaws.{rewriting_is_target, rewriting_is_verified, rewriting_keeps_meaning}
 use Rattle.rewritten_sound.specs.Definite.{rewritten_source}
 use Rattle.moves_unseen.specs.Waits.{IsSound}
@@ -28,10 +26,9 @@ use Rattle.rewritten_runs.proofs.NameLaws.{names_are_kept}
 use Rattle.runs_unseen.proofs.SeenRuns.{keeps_way, seen_here, seen_there}
 use Rattle.object_meaning.proofs.OutcomeLaws.{concat-reverse}
 
-sound_after : (content after : ModuleContent) → IsSourceModule content → All HasNoBundle content.funcs → IsRewritten content after → IsSound after
-sound_after content after source bare is = record {
+sound_after : (content after : ModuleContent) → IsSourceModule content → IsRewritten content after → IsSound after
+sound_after content after source is = record {
   target = rewriting_is_target content after source is;
-  bundles = no_bundle content after is bare;
   verified = rewriting_is_verified content after source is;
 }
 
@@ -39,7 +36,7 @@ pub sources_run_on_machine : SourcesRunOnMachine
 sources_run_on_machine content reached source bare drops input plan bound outcome gives =
     let after : ModuleContent = rewritten_source reached in
     let is : IsRewritten content after = record { reached = reached; drops = drops; rest = refl } in
-    let sound = sound_after content after source bare is in
+    let sound = sound_after content after source is in
     let target = (rewriting_keeps_meaning content after source is input (go plan) bound outcome).0 gives in
     let run = seen_there after sound input plan bound outcome target in
     let way = keeps_way after sound input plan bound run.0 run.1.0 in
@@ -85,7 +82,7 @@ fronts_are_source content after source bare is input plan bound now reached =
     let machine : MachineOutcome = ended.outcome in
     let last = ended.gives.last in
     let printed = printed_first machinery input now machine reached ended.gives in
-    let found = seen_here after (sound_after content after source bare is) input plan bound machine ended.gives in
+    let found = seen_here after (sound_after content after source is) input plan bound machine ended.gives in
     let closing = closing_of machinery machine.end last.state in
     let lines : machine.lines ≡ reverse last.lines ++ closing = ap (λ (m : MachineOutcome). m.lines) ended.gives.is in
     record {

@@ -1,3 +1,4 @@
+pub mod RunLemmas
 pub mod StartLemmas
 pub mod StepLemmas
 pub mod TableLemmas

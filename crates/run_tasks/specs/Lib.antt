@@ -1,2 +1,3 @@
 pub mod Dids
+pub mod Runs
 pub mod Tables

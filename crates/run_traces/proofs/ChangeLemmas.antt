@@ -1,22 +1,14 @@
 -- Changes of slots, pair by pair and frame by frame.
-use Rattle.std.proofs.Common.{◌≡◌, ℕ, zero, suc, ◌+◌, ◌-◌, ◌*◌, ◌/◌, ◌<◌, ◌≤◌, List, [], ◌∷◌, ◌++◌, length, take, drop, map, refl, sym, ap, ◌∙◌, arith, get_or, Option, Some}
-use Rattle.std.specs.Prelude.{min, slice_get, slice_index}
+use Rattle.std.proofs.Common.{◌≡◌, ℕ, zero, suc, ◌+◌, ◌-◌, ◌*◌, ◌/◌, ◌<◌, ◌≤◌, List, [], ◌∷◌, ◌++◌, length, take, drop, map, refl, sym, ap, ◌∙◌, arith, Option, Some}
+use Rattle.std.specs.Prelude.{min, slice_index}
 use Rattle.std.proofs.lemmas.Bool.{ne_eqb}
 use Rattle.std.proofs.lemmas.List.{append-nil, append_assoc, drop-drop, drop_all, get_or-drop, get_or_past, length-drop, map-append, take_all}
-use Rattle.std.proofs.lemmas.Option.{slice_get-get_or, slice_get_within}
-use Rattle.map_bytes.specs.declared.values.Place.{Place}
 use Rattle.moving_heap.specs.declared.stands.Moved.{Moved}
-use Rattle.frame_walk.specs.Maps.{FrameEntry, Pair, pairs_in, word_place}
+use Rattle.frame_walk.specs.Maps.{FrameEntry, Pair}
 use Rattle.frame_walk.specs.Walks.{frame_words}
-use Rattle.frame_walk.proofs.WalkLemmas.{pair_step}
 use Rattle.machine_meaning.specs.Happenings.{SlotChange as Change, changes_from, frame_changes, slot_change}
 use Rattle.run_traces.specs.declared.frames.SlotChange.{SlotChange}
 use Rattle.run_traces.specs.Changes.{change_of}
-
-pub pair_more : (places : List Place) (at : ℕ) (derived : Place) → slice_get places (at + 1) ≡ Some derived
-    → pairs_in (drop at places) ≡ record { base = word_place (get_or places at derived); derived = word_place derived } ∷ pairs_in (drop (at + 2) places)
-pair_more places at derived d =
-    pair_step places at (get_or places at derived) derived (slice_get-get_or places at derived (omega (arith, slice_get_within places (at + 1) derived d))) d
 
 pub change_is : (task frame offset old new word : ℕ) (before after : List ℕ) (pair : Pair) → offset ≡ 8 * word → old ≡ slice_index before word → new ≡ slice_index after word → word ≡ pair.derived
     → change_of (record { task = task; frame = frame; offset = offset; old = old; new = new }) ≡ slot_change task frame before after pair

@@ -1,7 +1,7 @@
 pub mod TraceLaws
 pub mod EventLaws
-pub mod BareLaws
 pub mod MapLaws
+pub mod ShownLaws
 pub mod StepLaws
 pub mod LineCases
 pub mod RunSteps

@@ -1,4 +1,4 @@
--- No record of the map of a module has "deopt" locations, so the machine shows nothing at a trap.
+-- No record of the map of a module without bundles has "deopt" locations, so the machine shows nothing at a trap.
 use Rattle.std.proofs.Common.{◌≡◌, ℕ, zero, suc, ◌+◌, ◌==◌, if◌then◌else◌, Bool, true, false, cond, List, [], ◌∷◌, ◌++◌, map, take, drop, length, slice_index, Option, Some, None, refl, ap, subst, ◌∙◌}
 use Rattle.std.specs.List.{All, find}
 use Rattle.std.specs.Option.{option_map}
@@ -7,37 +7,53 @@ use Rattle.sp_ids.specs.declared.ends.End.{End}
 use Rattle.sp_ids.specs.declared.ends.End.TheVariants.{Trap}
 use Rattle.ir_ast.specs.declared.ops.Op.{Op}
 use Rattle.ir_ast.specs.declared.ops.Op.TheVariants as ops
+use Rattle.ir_ast.specs.Bundles.{HasNoBundle}
 use Rattle.ir_ast.specs.Funcs.{Function, instructions_of}
 use Rattle.ir_ast.specs.Insts.{Instruction}
 use Rattle.ir_ast.specs.Modules.{ModuleContent}
 use Rattle.ir_cfg.proofs.KeepsForms.{flat_all}
 use Rattle.map_bytes.specs.declared.values.FuncEntry.{FuncEntry}
+use Rattle.map_bytes.specs.declared.values.Place.{Place}
 use Rattle.map_bytes.specs.Entries.{Entry, entries, entries_of, entry_at, entry_of}
 use Rattle.map_bytes.specs.Maps.{MapRecord}
 use Rattle.moving_heap.specs.declared.stands.Stand.{Stand}
-use Rattle.frame_walk.specs.Maps.{FrameEntry, found_in, frame_entry, pairs_in}
+use Rattle.frame_walk.specs.Maps.{FrameEntry, deopt_count, deopt_places, found_in, frame_entry, pairs_of, usable}
 use Rattle.frame_walk.specs.Walks.{frame_words}
-use Rattle.stackmap_write.specs.ModuleMaps.{map_of, records_at, records_from, records_of}
+use Rattle.frame_forms.specs.BundleWords.{deopt_words}
+use Rattle.stackmap_write.specs.Constants.{constants_of}
+use Rattle.stackmap_write.specs.ModuleMaps.{deopt_places as written_places, map_of, places_by, records_at, records_from, records_of}
 use Rattle.machine_meaning.specs.Machines.{Machine, Machinery}
-use Rattle.machine_meaning.specs.TrapLines.{deopt_count, deopt_places, pair_places, is_readable, frame_line, shown_place, lines_with, lines_at, lines_from, closing_of}
+use Rattle.machine_meaning.specs.TrapLines.{frame_line, shown_place, lines_with, lines_at, lines_from, closing_of}
 
 -- ---- records
 
 abbrev IsHeaded : MapRecord → Type 0
 IsHeaded one = deopt_count one.places ≡ 0
 
-record_headed : (place : ℕ) (op : Op) (rest : List Instruction) → All IsHeaded (records_at place op rest)
-record_headed place (ops.Statepoint id callee types) rest = All-cons IsHeaded _ [] refl (All-nil IsHeaded)
-record_headed place op rest = All-nil IsHeaded
+bare_places : (constants : List ℕ) (inst : Instruction) → inst.bundle ≡ [] → written_places constants inst ≡ []
+bare_places constants inst bare = ap (λ bundle. places_by constants bundle (deopt_words inst)) bare
 
-records_headed : (place : ℕ) (insts : List Instruction) → All IsHeaded (records_from place insts)
-records_headed place [] = All-nil IsHeaded
-records_headed place (inst ∷ insts) =
-    All-append IsHeaded (records_at place inst.op insts) (records_from (place + 1) insts) (record_headed place inst.op insts) (records_headed (place + 1) insts)
+record_headed : (place : ℕ) (deopts : List Place) → deopts ≡ [] → (op : Op) (rest : List Instruction) → All IsHeaded (records_at place deopts op rest)
+record_headed place deopts none (ops.Statepoint id callee types) rest = All-cons IsHeaded _ [] (ap (λ (places : List Place). length places) none) (All-nil IsHeaded)
+record_headed place deopts none op rest = All-nil IsHeaded
 
-each_headed : (funcs : List Function) → All (λ func. All IsHeaded (records_of func)) funcs
-each_headed [] = All-nil (λ func. All IsHeaded (records_of func))
-each_headed (func ∷ funcs) = All-cons (λ func. All IsHeaded (records_of func)) func funcs (records_headed 0 (instructions_of func.blocks)) (each_headed funcs)
+abbrev IsBare : Instruction → Type 0
+IsBare inst = inst.bundle ≡ []
+
+records_headed : (constants : List ℕ) (place : ℕ) (insts : List Instruction) → All IsBare insts → All IsHeaded (records_from constants place insts)
+records_headed constants place [] bare = All-nil IsHeaded
+records_headed constants place (inst ∷ insts) bare =
+    let deopts = written_places constants inst in
+    All-append IsHeaded (records_at place deopts inst.op insts) (records_from constants (place + 1) insts)
+    (record_headed place deopts (bare_places constants inst (All-head IsBare inst insts bare)) inst.op insts)
+    (records_headed constants (place + 1) insts (All-tail IsBare inst insts bare))
+
+each_headed : (constants : List ℕ) (funcs : List Function) → All HasNoBundle funcs → All (λ func. All IsHeaded (records_of constants func)) funcs
+each_headed constants [] bare = All-nil (λ func. All IsHeaded (records_of constants func))
+each_headed constants (func ∷ funcs) bare =
+    All-cons (λ func. All IsHeaded (records_of constants func)) func funcs
+    (records_headed constants 0 (instructions_of func.blocks) (All-head HasNoBundle func funcs bare))
+    (each_headed constants funcs (All-tail HasNoBundle func funcs bare))
 
 abbrev EntryIsHeaded : Entry → Type 0
 EntryIsHeaded entry = IsHeaded entry.one
@@ -58,12 +74,12 @@ found_holds P test (first ∷ xs) x all is = by (test first) is (found_holds P t
     by true here there = let same : first ≡ x = cc in subst P same (All-head P first xs all)
     by false is there = there is
 
--- no record that the map of a module has at a return address has "deopt" locations
-pub names_nothing : (content : ModuleContent) (address : ℕ) (one : FrameEntry) → found_in (map_of content) address ≡ Some one → deopt_places one ≡ []
-names_nothing content address one is = by (entry_at (map_of content) address) refl is
+-- no record that the map of a module without bundles has at a return address has "deopt" locations
+pub names_nothing : (content : ModuleContent) → All HasNoBundle content.funcs → (address : ℕ) (one : FrameEntry) → found_in (map_of content) address ≡ Some one → deopt_places one ≡ []
+names_nothing content bare address one is = by (entry_at (map_of content) address) refl is
   where
     headed : All EntryIsHeaded (entries (map_of content))
-    headed = entries_headed (map_of content).functions (map_of content).records (flat_all IsHeaded records_of content.funcs (each_headed content.funcs))
+    headed = entries_headed (map_of content).functions (map_of content).records (flat_all IsHeaded (records_of (constants_of content)) content.funcs (each_headed (constants_of content) content.funcs bare))
 
     by : (found : Option Entry) → entry_at (map_of content) address ≡ found → option_map frame_entry found ≡ Some one → deopt_places one ≡ []
     by None at entry = cc
@@ -91,14 +107,14 @@ pub with_nothing : (machinery : Machinery) (stands : List Stand) (number : ℕ) 
 with_nothing machinery stands number stack below one None bare rest = refl
 with_nothing machinery stands number stack below one (Some name) bare rest =
     let next = slice_index stack (frame_words one) in let others = drop (frame_words one + 1) stack in
-    let shown = shown_place machinery stands (take (frame_words one) stack) (pairs_in (pair_places one)) in
+    let shown = shown_place machinery stands (take (frame_words one) stack) (pairs_of one) in
     ap (λ places. frame_line number name (map shown places) ++ below next others) bare ∙ rest next others
 
 pub at_nothing : (machinery : Machinery) (stands : List Stand) (number address : ℕ) (stack : List ℕ) (below : ℕ → List ℕ → List (List ℕ)) (found : Option FrameEntry)
     → ((one : FrameEntry) → found ≡ Some one → deopt_places one ≡ []) → ((next : ℕ) (rest : List ℕ) → below next rest ≡ []) → lines_at machinery stands number address stack below found ≡ []
 at_nothing machinery stands number address stack below None bare rest = refl
 at_nothing machinery stands number address stack below (Some one) bare rest =
-    either_nothing (is_readable (length stack) one) _ (with_nothing machinery stands number stack below one (machinery.name_at address) (bare one refl) rest)
+    either_nothing (usable (length stack) one) _ (with_nothing machinery stands number stack below one (machinery.name_at address) (bare one refl) rest)
 
 from_nothing : (fuel : ℕ) (machinery : Machinery) (stands : List Stand) (number address : ℕ) (stack : List ℕ) → IsQuiet machinery → lines_from fuel machinery stands number address stack ≡ []
 from_nothing zero machinery stands number address stack quiet = refl

@@ -31,6 +31,7 @@ use Rattle.moves_unseen.specs.States.{Extra, Follows, IsRelated, machine_of}
 use Rattle.moves_unseen.specs.Steps.{IsLast, StepFollows, both_end, both_go, both_print}
 use Rattle.moves_unseen.specs.Waits.{IsSound}
 use Rattle.moves_unseen.proofs.OpeningLaws.{openings_follow}
+use Rattle.moves_unseen.proofs.LastLaws.{last_of}
 use Rattle.runs_unseen.specs.Runs.{event_in}
 use Rattle.runs_unseen.proofs.EventLaws.{events_are}
 use Rattle.runs_unseen.proofs.LineCases.{accesses_are, all_lines_follow}
@@ -126,7 +127,7 @@ module _ (content : ModuleContent) (sound : IsSound content) (plan : List PlanLi
       subst (λ (effect : Effect State). StepFollows content machinery effect (machine_step machinery (machine_of machinery state extra))) (sym (step_at_end setting state is))
       (subst (StepFollows content machinery (ends (Trap Unreachable) state))
       (sym (ap (machine_at machinery (machine_of machinery state extra)) (ap (map worded) is)))
-      (both_end (Trap Unreachable) state (machine_of machinery state extra) (record { extra = extra; is = refl; objects = related.objects })))
+      (both_end (Trap Unreachable) state (machine_of machinery state extra) (last_of content machinery state extra related)))
   step_at state extra related (line ∷ rest) is = all_lines_follow content sound plan bound state extra related line rest is tt
 
   step_both : (state : State) (machine : Machine) → Follows content machinery state machine → StepFollows content machinery (step setting state) (machine_step machinery machine)

@@ -1,5 +1,5 @@
 -- Whole runs: what the machine gives over the map of a verified module is what the target meaning gives.
-use Rattle.std.proofs.Common.{◌≡◌, ℕ, List, [], ◌∷◌, ◌++◌, map, reverse, refl, sym, ap, ◌∙◌, subst, append_assoc, append-nil}
+use Rattle.std.proofs.Common.{◌≡◌, ℕ, List, [], ◌∷◌, ◌++◌, map, reverse, refl, sym, ap, ◌∙◌, subst, append_assoc}
 use Rattle.std.specs.Prelude.{ℤ, Option}
 use Rattle.std.specs.List.{concat}
 use Rattle.std.proofs.lemmas.List.{reverse-append}
@@ -21,6 +21,7 @@ use Rattle.object_meaning.proofs.EndLaws.{IsFinal}
 use Rattle.object_meaning.proofs.OutcomeLaws.{gives_final, gives_one, gives_some, concat-reverse}
 use Rattle.object_meaning.proofs.SimulationLaws.{accessing, followed, happens}
 use Rattle.stackmap_write.specs.ModuleMaps.{map_of}
+use Rattle.stackmap_write.proofs.FitLaws.{target_map_fits}
 use Rattle.machine_meaning.specs.Code.{machinery_of}
 use Rattle.machine_meaning.specs.Happenings.{happenings_at}
 use Rattle.machine_meaning.specs.MachineRuns.{MachineGives, MachineOutcome, happenings_from, machine_opening, machine_outcome, machine_proceeds}
@@ -34,15 +35,9 @@ use Rattle.moves_unseen.specs.Statements.{IsSeen, MovesAreUnseen}
 use Rattle.moves_unseen.specs.Waits.{IsSound}
 use Rattle.runs_unseen.specs.Runs.{IsSameRun, IsSeenFront, IsSeenRun, event_in}
 use Rattle.runs_unseen.specs.Statements.{IsSeenOf}
-use Rattle.runs_unseen.proofs.BareLaws.{closing_bare}
-use Rattle.runs_unseen.proofs.MapLaws.{closing_nothing, names_nothing}
+use Rattle.runs_unseen.proofs.ShownLaws.{closing_same}
 use Rattle.runs_unseen.proofs.RunSteps.{IsLastFollowed, accessing_there, happens_there, opens, simulates}
 use Rattle.runs_unseen.proofs.TraceLaws.{traced_mapped}
-
--- two equal texts, of which both have nothing behind
-same_lines : (one other shown other_shown : List (List ℕ)) → one ≡ other → shown ≡ [] → other_shown ≡ [] → reverse one ++ shown ≡ reverse other ++ other_shown
-same_lines one other shown other_shown same none other_none =
-    ap (λ (more : List (List ℕ)). reverse one ++ more) (none ∙ sym other_none) ∙ ap (λ (all : List (List ℕ)). reverse all ++ other_shown) same
 
 module _ (content : ModuleContent) (sound : IsSound content) (input : List ℤ) (plan : List PlanLine) (bound : ℕ) where
   abbrev machinery : Machinery
@@ -58,9 +53,8 @@ module _ (content : ModuleContent) (sound : IsSound content) (input : List ℤ) 
       → accesses_from setting within (Go (opening setting input)) ≡ accesses_there machinery more (Go (machine_opening machinery input))
       → IsSeen content (outcome_of setting input within end last) (machine_outcome machinery input more end there)
   seen_end within end last more there holds does sees = record {
-    lines = same_lines there.lines last.lines (closing_of machinery end there.state) (closing_lines setting.names end last.state) holds.lines
-        (closing_nothing machinery end there.state (names_nothing content))
-        (closing_bare content sound.bundles (go plan) bound setting.names end last.state holds.stand);
+    lines = ap (λ (all : List (List ℕ)). reverse all ++ closing_of machinery end there.state) holds.lines
+        ∙ ap (λ (shown : List (List ℕ)). reverse last.lines ++ shown) (closing_same content sound (target_map_fits content sound.target).few_constants plan bound end last.state there.state holds.is_last);
     end = refl;
     func = ap (λ (m : Machine). m.state.running.func) holds.is_last.is;
     steps = ap (λ (m : Machine). m.state.steps) holds.is_last.is;
@@ -126,18 +120,18 @@ module _ (content : ModuleContent) (sound : IsSound content) (input : List ℤ) 
       let there = seen_there given.outcome given.gives in
       let gives = there.1.0 in
       let printed = printed_first machinery input now there.0 reached gives in
-      let none = closing_nothing machinery there.0.end gives.last.state (names_nothing content) in
-      let whole : whole_text given.outcome ≡ text_of now.lines ++ printed.more =
+      let shown = concat (closing_of machinery there.0.end gives.last.state) in
+      let whole : whole_text given.outcome ≡ text_of now.lines ++ (printed.more ++ shown) =
       ap concat (sym there.1.1.lines)
       ∙ (ap (λ (outcome : MachineOutcome). concat outcome.lines) gives.is
-      ∙ (ap (λ (shown : List (List ℕ)). concat (reverse gives.last.lines ++ shown)) none
-      ∙ (ap concat (append-nil (reverse gives.last.lines)) ∙ (concat-reverse gives.last.lines ∙ printed.text)))) in record {
+      ∙ (concat-append (reverse gives.last.lines) (closing_of machinery there.0.end gives.last.state)
+      ∙ (ap (λ (text : List ℕ). text ++ shown) (concat-reverse gives.last.lines ∙ printed.text) ∙ append_assoc (text_of now.lines) printed.more shown))) in record {
         outcome = given.outcome;
         gives = given.gives;
         front = record {
           front = written.front;
-          rest = written.rest ++ printed.more;
-          whole = whole ∙ (ap (λ (text : List ℕ). text ++ printed.more) written.whole ∙ append_assoc written.front written.rest printed.more);
+          rest = written.rest ++ (printed.more ++ shown);
+          whole = whole ∙ (ap (λ (text : List ℕ). text ++ (printed.more ++ shown)) written.whole ∙ append_assoc written.front written.rest (printed.more ++ shown));
           added = written.added;
         };
       }
@@ -168,5 +162,5 @@ moves_are_free content sound input plan other same bound one two gives_one_so gi
     same_run content second.outcome one two (subst (λ (o : Outcome). IsSeen content o one) outcomes first.seen) second.seen
 
 pub moves_are_unseen : MovesAreUnseen
-moves_are_unseen = λ content target bundles verified input plan bound outcome gives.
-    seen_there content (record { target = target; bundles = bundles; verified = verified }) input plan bound outcome gives
+moves_are_unseen = λ content target verified input plan bound outcome gives.
+    seen_there content (record { target = target; verified = verified }) input plan bound outcome gives

@@ -1,6 +1,6 @@
 -- The law of whole runs, the other way round and as code that runs a module has it. `AllLinesFollow` and `MovesAreUnseen` stand in
 -- `moves_unseen`.
-use Rattle.std.specs.Prelude.{◌≡◌, ℕ, ℤ, List, Option, Some, []}
+use Rattle.std.specs.Prelude.{◌≡◌, ℕ, ℤ, List, Option}
 use Rattle.std.specs.List.{concat}
 use Rattle.sp_ids.specs.declared.ends.End.{End}
 use Rattle.sp_ids.specs.declared.ends.End.TheVariants.{LostFrame, Poison}
@@ -8,7 +8,6 @@ use Rattle.ir_ast.specs.Modules.{ModuleContent}
 use Rattle.tool_io.specs.Sink.{AppendsFront, append_known}
 use Rattle.move_plan.specs.declared.plan_lines.PlanLine.{PlanLine}
 use Rattle.move_plan.specs.Plans.{go}
-use Rattle.frame_walk.specs.Maps.{FrameEntry, found_in}
 use Rattle.object_meaning.specs.Effects.{Progress, text_of}
 use Rattle.object_meaning.specs.Outcomes.{Outcome}
 use Rattle.object_meaning.specs.Runs.{Reaches}
@@ -17,7 +16,6 @@ use Rattle.stackmap_write.specs.ModuleMaps.{map_of}
 use Rattle.machine_meaning.specs.Code.{machinery_of}
 use Rattle.machine_meaning.specs.Machines.{Machine}
 use Rattle.machine_meaning.specs.MachineRuns.{MachineGives, MachineOutcome, machine_opening, machine_proceeds}
-use Rattle.machine_meaning.specs.TrapLines.{deopt_places}
 use Rattle.moves_unseen.specs.Statements.{IsSeen}
 use Rattle.moves_unseen.specs.Waits.{IsSound}
 use Rattle.runs_unseen.specs.Runs.{IsSameRun, IsSeenFront, IsSeenRun}
@@ -55,7 +53,3 @@ abbrev pub FrontsAreSeen : Type 0
 FrontsAreSeen = (content : ModuleContent) → IsSound content → (input : List ℤ) (plan : List PlanLine) (bound : ℕ) (now : Progress Machine)
     → Reaches {E = End} (machine_proceeds (machinery_of content (map_of content) plan bound)) (machine_opening (machinery_of content (map_of content) plan bound) input) now
     → (old new : Option (List ℕ)) → AppendsFront old new (text_of now.lines) → IsSeenFront content input (go plan) bound old new
-
--- no record of the map of a module has "deopt" locations, so no frame that waits shows a line at a trap
-abbrev pub MapsNameNothing : Type 0
-MapsNameNothing = (content : ModuleContent) (address : ℕ) (one : FrameEntry) → found_in (map_of content) address ≡ Some one → deopt_places one ≡ []

@@ -3,7 +3,7 @@
 
 ghost use Rattle.moves_unseen.specs.Statements.{MovesAreUnseen};
 ghost use Rattle.moves_unseen.specs.Waits.{AllLinesFollow};
-ghost use Rattle.runs_unseen.specs.Statements.{AnswersAreSeen, FrontsAreSeen, MachineRunsAreSeen, MapsNameNothing, MovesAreFree, RunsKeepTheirWay};
+ghost use Rattle.runs_unseen.specs.Statements.{AnswersAreSeen, FrontsAreSeen, MachineRunsAreSeen, MovesAreFree, RunsKeepTheirWay};
 
 pub mod calls_unseen;
 pub mod events_unseen;
@@ -49,9 +49,4 @@ pub fn answers_are_seen()
 /// What a run has printed when it is cut off is a front of what the target meaning writes.
 pub fn fronts_are_seen()
     ensures { FrontsAreSeen }
-{}
-
-/// No record of the map of a module has "deopt" locations.
-pub fn maps_name_nothing()
-    ensures { MapsNameNothing }
 {}

@@ -1,15 +1,15 @@
 -- What a view keeps of its bytes.
-use Rattle.std.proofs.Common.{◌≡◌, ℕ, ◌+◌, ◌*◌, ◌≤◌, IsTrue, List, ◌++◌, length, drop, Some, None, Result, Ok, Err, refl, sym, ap, ◌∙◌, arith}
-use Rattle.std.specs.Prelude.{is_none}
+use Rattle.std.proofs.Common.{◌≡◌, ℕ, zero, suc, ◌+◌, ◌*◌, ◌<◌, ◌≤◌, IsTrue, List, ◌++◌, length, drop, Some, None, Result, Ok, Err, refl, sym, ap, ◌∙◌, arith}
+use Rattle.std.specs.Prelude.{is_none, slice_get}
 use Rattle.std.specs.List.{flat_map}
-use Rattle.std.proofs.lemmas.List.{length-append}
+use Rattle.std.proofs.lemmas.List.{drop-drop, length-append}
 use Rattle.byteorder.specs.Endian.{little_bytes, little_number}
 use Rattle.map_bytes.specs.declared.rules.MapFault.{MapFault}
 use Rattle.map_bytes.specs.Formats.{AreBytes}
 use Rattle.map_bytes.specs.Tables.{map_format}
 use Rattle.map_bytes.specs.Maps.{StackMap, counted_records, function_bytes, header_bytes, record_bytes, IsMapOf}
 use Rattle.map_bytes.specs.Faults.{first_fault, IsFirstFault}
-use Rattle.map_bytes.specs.Reads.{functions_read, records_read, constants_at, records_at, map_read}
+use Rattle.map_bytes.specs.Reads.{functions_read, constants_read, records_read, constants_at, records_at, map_read}
 use Rattle.map_bytes.proofs.PartLaws.{map_bytes-parts}
 use Rattle.map_bytes.proofs.FitsLaws.{map-fits}
 use Rattle.map_bytes.proofs.ReadLaws.{map-back, length-functions, length-constants}
@@ -88,6 +88,23 @@ functions_are bytes = length-functions_read (little_number 4 (drop 4 bytes)) (dr
 pub records_are : (bytes : List ℕ) → length (map_read bytes).records ≡ little_number 4 (drop 12 bytes)
 unfolding map_read
 records_are bytes = length-records_read (little_number 4 (drop 12 bytes)) (drop (records_at bytes) bytes)
+
+length-constants_read : (n : ℕ) (bytes : List ℕ) → length (constants_read n bytes) ≡ n
+unfolding constants_read
+length-constants_read zero bytes = refl
+length-constants_read (suc n) bytes = ap suc (length-constants_read n (drop 8 bytes))
+
+pub constants_are : (bytes : List ℕ) → length (map_read bytes).constants ≡ little_number 4 (drop 8 bytes)
+unfolding map_read
+constants_are bytes = length-constants_read (little_number 4 (drop 8 bytes)) (drop (constants_at bytes) bytes)
+
+pub constant-get : (n i : ℕ) (bytes : List ℕ) → i < n → slice_get (constants_read n bytes) i ≡ Some (little_number 8 (drop (8 * i) bytes))
+unfolding constants_read
+constant-get zero i bytes lt = absurd (omega arith)
+constant-get (suc n) zero bytes lt = refl
+constant-get (suc n) (suc i) bytes lt =
+    let sum : 8 + 8 * i ≡ 8 * suc i = omega arith in
+    constant-get n i (drop 8 bytes) (omega arith) ∙ ap (λ (x : List ℕ). Some (little_number 8 x)) (drop-drop (8 * i) 8 bytes ∙ ap (λ (k : ℕ). drop k bytes) sum)
 
 pub functions-of : (bytes : List ℕ) (n : ℕ) (functions : List ℕ) → n ≡ length (map_read bytes).functions → functions ≡ drop 16 bytes → functions_read n functions ≡ (map_read bytes).functions
 unfolding map_read

@@ -27,7 +27,7 @@ impl<'a> Model for MapIndex<'a> {
 }
 
 impl<'a> MapIndex<'a> {
-    ghost use Rattle.std.specs.Prelude.{◌≡◌, IfOk, length, option_map};
+    ghost use Rattle.std.specs.Prelude.{◌≡◌, IfOk, length, option_map, slice_index};
     ghost use Rattle.std.specs.List.Sorted.{IsPermutation};
     ghost use Rattle.std.specs.List.{AllAdjacentBelow};
     ghost use Rattle.map_bytes.specs.Entries.{entry_at};
@@ -51,5 +51,16 @@ impl<'a> MapIndex<'a> {
         ensures { option_map seen result ≡ entry_at self.now.whole return_address }
     {
         search(&self.list, return_address)
+    }
+
+    /// The number with this place in the map's list of constants, or 0 where the list is shorter.
+    pub fn constant(&self, index: u32) -> u64
+        ensures { result ≡ slice_index self.now.whole.constants index }
+    {
+        if index < self.view.constants() {
+            self.view.constant(index)
+        } else {
+            0
+        }
     }
 }

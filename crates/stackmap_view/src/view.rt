@@ -64,6 +64,27 @@ impl<'a> MapView<'a> {
         function_entry(function)
     }
 
+    /// How many numbers the map's list of constants has.
+    #[tactic(auto, unfolding(map_bytes::specs::Reads::map_read))]
+    pub fn constants(&self) -> u32
+        ensures { result ≡ length (stack_map self.now).constants }
+    {
+        let (_front, count) = self.bytes.split_at(8);
+        LittleEndian::read_u32(count)
+    }
+
+    /// A number of the list of constants, by its place from 0.
+    #[tactic(auto, unfolding(map_bytes::specs::Reads::map_read))]
+    pub fn constant(&self, index: u32) -> u64
+        requires { index < length (stack_map self.now).constants }
+        ensures { slice_get (stack_map self.now).constants index ≡ Some result }
+    {
+        let constants_at = 16 + 24 * self.functions() as usize;
+        let (_front, constants) = self.bytes.split_at(constants_at);
+        let (_before, constant) = constants.split_at(8 * index as usize);
+        LittleEndian::read_u64(constant)
+    }
+
     /// The records of all functions, in order.
     pub fn records(&self) -> Records<'a>
         ensures { records_left result ≡ entries (stack_map self.now) }

@@ -18,9 +18,11 @@ use Rattle.object_meaning.specs.Frames.{is_member}
 use Rattle.frame_forms.specs.CodeAddresses.{next_start}
 use Rattle.frame_forms.specs.ModuleLayouts.{FunctionLayout, laid_at, laid_from, statepoints_of}
 use Rattle.map_bytes.specs.declared.values.FuncEntry.{FuncEntry}
+use Rattle.map_bytes.specs.declared.values.Place.{Place}
 use Rattle.map_bytes.specs.Entries.{Entry, entry_of, entries_of, entries}
 use Rattle.map_bytes.specs.Maps.{MapRecord}
-use Rattle.stackmap_write.specs.ModuleMaps.{entries_of as function_entries, entry_of as function_entry, map_of, records_at, records_from, records_of}
+use Rattle.stackmap_write.specs.Constants.{constants_of}
+use Rattle.stackmap_write.specs.ModuleMaps.{deopt_places, entries_of as function_entries, entry_of as function_entry, map_of, records_at, records_from, records_of}
 use Rattle.stackmap_write.proofs.FitLaws.{IsTarget, length-records, targets_of}
 
 -- ---- rising numbers between two ends: above the lower one, at most the upper one
@@ -73,21 +75,22 @@ starts_below true place run none = cc
 starts_below false place run none = omega arith
 
 -- what an operator's record, if it has one, adds before the others
-at_op : (member : Bool) (place : ℕ) (rest : List Instruction) (op : Op) → is_member op ≡ member → (high : ℕ)
-    → Rises (4 * (place + 1 + run_of rest)) high (offsets_of (records_from (place + 1) rest))
-    → Rises (4 * (place + cond member (1 + run_of rest) 0)) high (offsets_of (records_at place op rest ++ records_from (place + 1) rest))
-at_op member place rest (Statepoint id callee types) kind high rises = (starts_below member place (run_of rest) kind, rises)
-at_op member place rest _ kind high rises =
-    rises_lower (4 * (place + cond member (1 + run_of rest) 0)) (4 * (place + 1 + run_of rest)) high (offsets_of (records_from (place + 1) rest))
+at_op : (constants : List ℕ) (deopts : List Place) (member : Bool) (place : ℕ) (rest : List Instruction) (op : Op) → is_member op ≡ member → (high : ℕ)
+    → Rises (4 * (place + 1 + run_of rest)) high (offsets_of (records_from constants (place + 1) rest))
+    → Rises (4 * (place + cond member (1 + run_of rest) 0)) high (offsets_of (records_at place deopts op rest ++ records_from constants (place + 1) rest))
+at_op constants deopts member place rest (Statepoint id callee types) kind high rises = (starts_below member place (run_of rest) kind, rises)
+at_op constants deopts member place rest _ kind high rises =
+    rises_lower (4 * (place + cond member (1 + run_of rest) 0)) (4 * (place + 1 + run_of rest)) high (offsets_of (records_from constants (place + 1) rest))
     (ends_below member place (run_of rest)) rises
 
-offsets_rise : (place : ℕ) (insts : List Instruction)
-    → Rises (4 * (place + run_of insts)) (4 * (place + length insts)) (offsets_of (records_from place insts))
-offsets_rise place [] = omega arith
-offsets_rise place (inst ∷ rest) =
+offsets_rise : (constants : List ℕ) (place : ℕ) (insts : List Instruction)
+    → Rises (4 * (place + run_of insts)) (4 * (place + length insts)) (offsets_of (records_from constants place insts))
+offsets_rise constants place [] = omega arith
+offsets_rise constants place (inst ∷ rest) =
     let more : 4 * (place + 1 + length rest) ≡ 4 * (place + suc (length rest)) = omega arith in
-    let P : ℕ → Type 0 = λ high. Rises (4 * (place + 1 + run_of rest)) high (offsets_of (records_from (place + 1) rest)) in
-    at_op (is_member inst.op) place rest inst.op refl (4 * (place + suc (length rest))) (subst P more (offsets_rise (place + 1) rest))
+    let P : ℕ → Type 0 = λ high. Rises (4 * (place + 1 + run_of rest)) high (offsets_of (records_from constants (place + 1) rest)) in
+    at_op constants (deopt_places constants inst) (is_member inst.op) place rest inst.op refl (4 * (place + suc (length rest)))
+    (subst P more (offsets_rise constants (place + 1) rest))
 
 -- ---- addresses of a module's records
 
@@ -109,20 +112,20 @@ none_left [] none = refl
 none_left (one ∷ records) none = absurd (omega arith)
 
 -- the records of a function and of those behind it
-pub split_by : (has : Bool) (start : ℕ) (func : Function) (laid : List FunctionLayout) (rest : List MapRecord) → nat_lt 0 (statepoints_of func) ≡ has
+pub split_by : (constants : List ℕ) (has : Bool) (start : ℕ) (func : Function) (laid : List FunctionLayout) (rest : List MapRecord) → nat_lt 0 (statepoints_of func) ≡ has
     → entries_of (map function_entry (cond has (laid_at start func ∷ filter (λ other. nat_lt 0 other.statepoints) laid) (filter (λ other. nat_lt 0 other.statepoints) laid)))
-    (records_of func ++ rest)
-    ≡ map (entry_of (function_entry (laid_at start func))) (records_of func) ++ entries_of (function_entries laid) rest
+    (records_of constants func ++ rest)
+    ≡ map (entry_of (function_entry (laid_at start func))) (records_of constants func) ++ entries_of (function_entries laid) rest
 unfolding entries_of
-split_by true start func laid rest has =
-    let count : statepoints_of func ≡ length (records_of func) = sym (length-filter (λ inst. is_statepoint inst.op) (instructions_of func.blocks)) ∙ sym (length-records 0 (instructions_of func.blocks)) in
-    ap (λ n. map (entry_of (function_entry (laid_at start func))) (take n (records_of func ++ rest)) ++ entries_of (function_entries laid) (drop n (records_of func ++ rest))) count
-    ∙ ap (λ front. map (entry_of (function_entry (laid_at start func))) front ++ entries_of (function_entries laid) (drop (length (records_of func)) (records_of func ++ rest))) (take-append_seam (records_of func) rest)
-    ∙ ap (λ back. map (entry_of (function_entry (laid_at start func))) (records_of func) ++ entries_of (function_entries laid) back) (drop-append_seam (records_of func) rest)
-split_by false start func laid rest has =
-    let count : statepoints_of func ≡ length (records_of func) = sym (length-filter (λ inst. is_statepoint inst.op) (instructions_of func.blocks)) ∙ sym (length-records 0 (instructions_of func.blocks)) in
+split_by constants true start func laid rest has =
+    let count : statepoints_of func ≡ length (records_of constants func) = sym (length-filter (λ inst. is_statepoint inst.op) (instructions_of func.blocks)) ∙ sym (length-records constants 0 (instructions_of func.blocks)) in
+    ap (λ n. map (entry_of (function_entry (laid_at start func))) (take n (records_of constants func ++ rest)) ++ entries_of (function_entries laid) (drop n (records_of constants func ++ rest))) count
+    ∙ ap (λ front. map (entry_of (function_entry (laid_at start func))) front ++ entries_of (function_entries laid) (drop (length (records_of constants func)) (records_of constants func ++ rest))) (take-append_seam (records_of constants func) rest)
+    ∙ ap (λ back. map (entry_of (function_entry (laid_at start func))) (records_of constants func) ++ entries_of (function_entries laid) back) (drop-append_seam (records_of constants func) rest)
+split_by constants false start func laid rest has =
+    let count : statepoints_of func ≡ length (records_of constants func) = sym (length-filter (λ inst. is_statepoint inst.op) (instructions_of func.blocks)) ∙ sym (length-records constants 0 (instructions_of func.blocks)) in
     let few : statepoints_of func ≤ 0 = ltb-false 0 (statepoints_of func) has in
-    let none : records_of func ≡ [] = none_left (records_of func) (omega arith) in
+    let none : records_of constants func ≡ [] = none_left (records_of constants func) (omega arith) in
     ap (λ records. entries_of (function_entries laid) (records ++ rest)) none
     ∙ sym (ap (λ records. map (entry_of (function_entry (laid_at start func))) records ++ entries_of (function_entries laid) rest) none)
 
@@ -130,11 +133,11 @@ rises_upper : (low high higher : ℕ) (xs : List ℕ) → high ≤ higher → Ri
 rises_upper low high higher [] above rises = let known : low ≤ high = rises in omega arith
 rises_upper low high higher (x ∷ xs) above rises = (rises.0, rises_upper x high higher xs above rises.1)
 
-addresses_rise : (start : ℕ) (funcs : List Function) → start + length funcs * 4294967312 < 2 ^ 64 → All IsTarget funcs
-    → Rises start (start + length funcs * 4294967312) (addresses_of (entries_of (function_entries (laid_from start funcs)) (flat_map records_of funcs)))
+addresses_rise : (constants : List ℕ) (start : ℕ) (funcs : List Function) → start + length funcs * 4294967312 < 2 ^ 64 → All IsTarget funcs
+    → Rises start (start + length funcs * 4294967312) (addresses_of (entries_of (function_entries (laid_from start funcs)) (flat_map (records_of constants) funcs)))
 unfolding entries_of
-addresses_rise start [] room targets = omega arith
-addresses_rise start (func ∷ funcs) room targets =
+addresses_rise constants start [] room targets = omega arith
+addresses_rise constants start (func ∷ funcs) room targets =
     let target : IsTarget func = All-head IsTarget func funcs targets in
     let few : length (instructions_of func.blocks) < 2 ^ 30 = target.small.few_instructions in
     let next = next_start start func in
@@ -142,22 +145,22 @@ addresses_rise start (func ∷ funcs) room targets =
     let behind : start + 4 * (0 + length (instructions_of func.blocks)) ≤ next = omega arith in
     let left : next + length funcs * 4294967312 < 2 ^ 64 = omega arith in
     let laid = laid_from next funcs in
-    let rest = flat_map records_of funcs in
+    let rest = flat_map (records_of constants) funcs in
     let one = function_entry (laid_at start func) in
     let high = 4 * (0 + length (instructions_of func.blocks)) in
-    let offsets : Rises 0 high (offsets_of (records_of func)) =
-    rises_lower 0 (4 * (0 + run_of (instructions_of func.blocks))) high (offsets_of (records_of func)) (omega arith) (offsets_rise 0 (instructions_of func.blocks)) in
-    let split = ap addresses_of (split_by (nat_lt 0 (statepoints_of func)) start func laid rest refl)
-    ∙ map-append (λ (e : Entry). e.return_address) (map (entry_of one) (records_of func)) (entries_of (function_entries laid) rest)
-    ∙ ap (λ front. front ++ addresses_of (entries_of (function_entries laid) rest)) (plain_addresses one high (records_of func) 0 offsets (omega arith)) in
-    let front : Rises start (start + high) (map (λ x. start + x) (offsets_of (records_of func))) =
-    rises_lower start (start + 0) (start + high) (map (λ x. start + x) (offsets_of (records_of func))) (omega arith) (rises_shifted start 0 high (offsets_of (records_of func)) offsets) in
+    let offsets : Rises 0 high (offsets_of (records_of constants func)) =
+    rises_lower 0 (4 * (0 + run_of (instructions_of func.blocks))) high (offsets_of (records_of constants func)) (omega arith) (offsets_rise constants 0 (instructions_of func.blocks)) in
+    let split = ap addresses_of (split_by constants (nat_lt 0 (statepoints_of func)) start func laid rest refl)
+    ∙ map-append (λ (e : Entry). e.return_address) (map (entry_of one) (records_of constants func)) (entries_of (function_entries laid) rest)
+    ∙ ap (λ front. front ++ addresses_of (entries_of (function_entries laid) rest)) (plain_addresses one high (records_of constants func) 0 offsets (omega arith)) in
+    let front : Rises start (start + high) (map (λ x. start + x) (offsets_of (records_of constants func))) =
+    rises_lower start (start + 0) (start + high) (map (λ x. start + x) (offsets_of (records_of constants func))) (omega arith) (rises_shifted start 0 high (offsets_of (records_of constants func)) offsets) in
     let later : Rises (start + high) (next + length funcs * 4294967312) (addresses_of (entries_of (function_entries laid) rest)) =
     rises_lower (start + high) next (next + length funcs * 4294967312) (addresses_of (entries_of (function_entries laid) rest)) behind
-    (addresses_rise next funcs left (All-tail IsTarget func funcs targets)) in
+    (addresses_rise constants next funcs left (All-tail IsTarget func funcs targets)) in
     let whole = rises_upper start (next + length funcs * 4294967312) (start + suc (length funcs) * 4294967312)
-    (map (λ x. start + x) (offsets_of (records_of func)) ++ addresses_of (entries_of (function_entries laid) rest)) (omega arith)
-    (rises_joined start (start + high) (next + length funcs * 4294967312) (map (λ x. start + x) (offsets_of (records_of func))) (addresses_of (entries_of (function_entries laid) rest)) front later) in
+    (map (λ x. start + x) (offsets_of (records_of constants func)) ++ addresses_of (entries_of (function_entries laid) rest)) (omega arith)
+    (rises_joined start (start + high) (next + length funcs * 4294967312) (map (λ x. start + x) (offsets_of (records_of constants func))) (addresses_of (entries_of (function_entries laid) rest)) front later) in
     subst (Rises start (start + suc (length funcs) * 4294967312)) (sym split) whole
 
 -- each return address of a target module's map is above the one before it
@@ -165,4 +168,4 @@ pub target_addresses_rise : (content : ModuleContent) → IsTargetModule content
 target_addresses_rise content target =
     let few : length content.funcs ≤ 4096 = target.typed.limits.functions in
     rises_at 4096 (4096 + length content.funcs * 4294967312) (addresses_of (entries (map_of content)))
-    (addresses_rise 4096 content.funcs (omega arith) (targets_of content target))
+    (addresses_rise (constants_of content) 4096 content.funcs (omega arith) (targets_of content target))

@@ -1,6 +1,8 @@
 -- The map of a target module is a map: each of its numbers fits in its field.
 use Rattle.std.proofs.Common.{◌≡◌, ◌∙◌, ℕ, suc, ◌+◌, ◌*◌, ◌^◌, ◌<◌, ◌≤◌, Bool, true, false, cond, ◌&&◌, List, [], ◌∷◌, ◌++◌, length, get_or, take, drop, map, filter, fold, max, count_by, nat_lt, Some, slice_get, Result, Ok, Err, IfOk, Vec, Global, refl, ap, sym, subst, arith, append_assoc, length-append}
+use Rattle.std.specs.Prelude.{pos}
 use Rattle.std.specs.List.{All, AllByRecursion, flat_map}
+use Rattle.std.proofs.lemmas.Int.{ints}
 use Rattle.std.proofs.lemmas.List.Elements.{All-head, All-tail, filter-append}
 use Rattle.std.proofs.lemmas.List.Sums.{count_by-le-length, length-filter}
 use Rattle.list_laws.proofs.Contents.{all_at}
@@ -22,13 +24,16 @@ use Rattle.frame_forms.specs.CodeAddresses.{next_start}
 use Rattle.frame_forms.specs.FrameSizes.{frame_words, is_named_integer, words_at, words_of}
 use Rattle.frame_forms.specs.ModuleLayouts.{FunctionLayout, laid_at, laid_from, layout_of, statepoints_of}
 use Rattle.frame_forms.proofs.ReturnLemmas.{group_within}
+use Rattle.map_bytes.specs.declared.values.Place.{Place}
 use Rattle.map_bytes.specs.Maps.{IsMap, IsMapOf, counted_records, map_bytes}
 use Rattle.map_bytes.specs.Fits.{FunctionFits, MapFits, PlaceFits, RecordFits}
 use Rattle.map_bytes.proofs.FitsLaws.{fits-map}
-use Rattle.stackmap_write.specs.ModuleMaps.{entries_of as function_entries, entry_of, map_of, member_places, records_at, records_from, records_of}
-use Rattle.stackmap_write.proofs.AppendLemmas.{all_joined}
+use Rattle.stackmap_write.specs.Constants.{constants_of, large_by, large_in, large_of}
+use Rattle.stackmap_write.specs.ModuleMaps.{deopt_places, entries_of as function_entries, entry_of, map_of, member_places, records_at, records_from, records_of}
+use Rattle.stackmap_write.proofs.AppendLemmas.{all_back, all_front, all_joined}
+use Rattle.stackmap_write.proofs.ConstantLaws.{Listed, all_listed, constant_fits, count_in, fold_length, fold_words, words_of as all_words}
 use Rattle.stackmap_write.proofs.EntryLemmas.{counted_step, entries_short, length-laid_from}
-use Rattle.stackmap_write.proofs.PlaceFitLaws.{constant_fits, members_fit, all_taken, places_fit}
+use Rattle.stackmap_write.proofs.PlaceFitLaws.{FitsInMap, all_taken, deopts_count, deopts_fit, members_fit, places_fit}
 use Rattle.stackmap_write.proofs.GroupLaws.{Head, run_count}
 
 -- ---- records
@@ -44,14 +49,17 @@ filtered_short p front rest =
     let split = ap length (filter-append p front rest) ∙ length-append (filter p front) (filter p rest) in
     omega (arith, split)
 
-statepoint_fits : (func : Function) → IsTarget func → (front : List Instruction) (inst : Instruction) (rest : List Instruction)
-    → instructions_of func.blocks ≡ front ++ inst ∷ rest → (op : Op) → inst.op ≡ op → AllByRecursion (RecordFits 0) (records_at (length front) op rest)
-statepoint_fits func target front inst rest whole (Statepoint id callee types) is =
+statepoint_fits : (constants : List ℕ) → length constants < 2 ^ 32 → (func : Function) → IsTarget func → (front : List Instruction) (inst : Instruction) (rest : List Instruction)
+    → instructions_of func.blocks ≡ front ++ inst ∷ rest → (op : Op) → inst.op ≡ op → AllByRecursion (Listed constants) (large_by op inst.bundle)
+    → AllByRecursion (RecordFits (length constants)) (records_at (length front) (deopt_places constants inst) op rest)
+statepoint_fits constants few_constants func target front inst rest whole (Statepoint id callee types) is listed =
     let insts = instructions_of func.blocks in
     let place = length front in
     let op = Statepoint id callee types in
     let size = group_size op rest in
     let group = take size rest in
+    let deopts = deopt_places constants inst in
+    let members = flat_map member_places group in
     let stands : slice_get insts place ≡ Some inst = ap (λ (xs : List Instruction). slice_get xs place) whole ∙ get_middle front inst rest in
     let heads : is_statepoint inst.op ≡ true = ap is_statepoint is in
     let head : Head func place = record { statepoint = inst; stands = stands; op = heads } in
@@ -60,84 +68,115 @@ statepoint_fits func target front inst rest whole (Statepoint id callee types) i
     let none = λ (k : ℕ) (after : place < k) (below : k < length (front ++ inst ∷ [])). absurd (omega arith) in
     let token = number_at func place in
     let q : Instruction → Bool = λ one. is_relocate one.op && is_part token one in
-    let run : length (flat_map member_places group) ≤ 2 * length (filter q rest) = run_count func target.shape place head (front ++ inst ∷ []) rest behind (omega arith) none in
+    let run : length members ≤ 2 * length (filter q rest) = run_count func target.shape place head (front ++ inst ∷ []) rest behind (omega arith) none in
     let among : length (filter q rest) ≤ length (filter q insts) =
     let P : List Instruction → Type 0 = λ xs. length (filter q rest) ≤ length (filter q xs) in subst P (sym behind) (filtered_short q (front ++ inst ∷ []) rest) in
     let few : length (filter q insts) ≤ 16384 = (target.small.statepoints place inst stands heads).1 in
+    let live : length (entries_of inst) ≤ 16384 = (target.small.statepoints place inst stands heads).0 in
+    let bundle : length inst.bundle ≤ 64 = all_at (λ (one : Instruction). length one.bundle ≤ 64) insts place inst target.bundles stands in
+    let many : length deopts ≡ length inst.bundle = deopts_count constants inst in
+    let split : length (deopts ++ members) ≡ length deopts + length members = length-append deopts members in
     let within : size ≤ length rest = group_within op rest in
     let total : length insts ≡ place + suc (length rest) = ap length whole ∙ length-append front (inst ∷ rest) in
     let word : id < 2 ^ 64 = subst IdIsWord is (all_at (λ (one : Instruction). IdIsWord one.op) insts place inst target.small.ids stands) in
-    let fit = all_taken (λ (one : Instruction). AllByRecursion (PlaceFits 0) (member_places one)) size rest
-    (members_fit func target.shape target.small.statepoints (front ++ inst ∷ []) rest behind) in (
+    let fit = all_taken (FitsInMap (length constants)) size rest
+    (members_fit (length constants) func target.shape target.small.statepoints (front ++ inst ∷ []) rest behind) in
+    let zeros = constant_fits (length constants) (pos 0) (omega (arith, ints)) in
+    let third = constant_fits (length constants) (pos (length deopts)) (omega (arith, ints)) in
+    let locations = all_joined (PlaceFits (length constants)) deopts members (deopts_fit constants few_constants inst live bundle listed) (places_fit (length constants) group fit) in (
       record {
         id = word;
         offset = omega (arith, target.small.few_instructions);
         few_places = omega arith;
         few_live_outs = omega arith;
-        places = (constant_fits, (constant_fits, (constant_fits, places_fit group fit)));
+        places = (zeros, (zeros, (third, locations)));
         live_outs = tt;
       },
       tt,
     )
-statepoint_fits func target front inst rest whole _ is = tt
+statepoint_fits constants few_constants func target front inst rest whole _ is listed = tt
 
-records_fit : (func : Function) → IsTarget func → (front rest : List Instruction) → instructions_of func.blocks ≡ front ++ rest
-    → AllByRecursion (RecordFits 0) (records_from (length front) rest)
-records_fit func target front [] whole = tt
-records_fit func target front (inst ∷ rest) whole =
+records_fit : (constants : List ℕ) → length constants < 2 ^ 32 → (func : Function) → IsTarget func → (front rest : List Instruction) → instructions_of func.blocks ≡ front ++ rest
+    → AllByRecursion (Listed constants) (flat_map large_in rest) → AllByRecursion (RecordFits (length constants)) (records_from constants (length front) rest)
+records_fit constants few func target front [] whole listed = tt
+records_fit constants few func target front (inst ∷ rest) whole listed =
     let behind : instructions_of func.blocks ≡ (front ++ inst ∷ []) ++ rest = whole ∙ sym (append_assoc front (inst ∷ []) rest) in
     let further : length (front ++ inst ∷ []) ≡ length front + 1 = length-append front (inst ∷ []) in
-    let P : ℕ → Type 0 = λ n. AllByRecursion (RecordFits 0) (records_from n rest) in
-    all_joined (RecordFits 0) (records_at (length front) inst.op rest) (records_from (length front + 1) rest)
-    (statepoint_fits func target front inst rest whole inst.op refl)
-    (subst P further (records_fit func target (front ++ inst ∷ []) rest behind))
+    let P : ℕ → Type 0 = λ n. AllByRecursion (RecordFits (length constants)) (records_from constants n rest) in
+    all_joined (RecordFits (length constants)) (records_at (length front) (deopt_places constants inst) inst.op rest) (records_from constants (length front + 1) rest)
+    (statepoint_fits constants few func target front inst rest whole inst.op refl (all_front (Listed constants) (large_in inst) (flat_map large_in rest) listed))
+    (subst P further (records_fit constants few func target (front ++ inst ∷ []) rest behind (all_back (Listed constants) (large_in inst) (flat_map large_in rest) listed)))
 
-all_records_fit : (funcs : List Function) → All IsTarget funcs → AllByRecursion (RecordFits 0) (flat_map records_of funcs)
-all_records_fit [] targets = tt
-all_records_fit (func ∷ funcs) targets =
-    all_joined (RecordFits 0) (records_of func) (flat_map records_of funcs)
-    (records_fit func (All-head IsTarget func funcs targets) [] (instructions_of func.blocks) refl)
-    (all_records_fit funcs (All-tail IsTarget func funcs targets))
+all_records_fit : (constants : List ℕ) → length constants < 2 ^ 32 → (funcs : List Function) → All IsTarget funcs → AllByRecursion (Listed constants) (flat_map large_of funcs)
+    → AllByRecursion (RecordFits (length constants)) (flat_map (records_of constants) funcs)
+all_records_fit constants few [] targets listed = tt
+all_records_fit constants few (func ∷ funcs) targets listed =
+    all_joined (RecordFits (length constants)) (records_of constants func) (flat_map (records_of constants) funcs)
+    (records_fit constants few func (All-head IsTarget func funcs targets) [] (instructions_of func.blocks) refl (all_front (Listed constants) (large_of func) (flat_map large_of funcs) listed))
+    (all_records_fit constants few funcs (All-tail IsTarget func funcs targets) (all_back (Listed constants) (large_of func) (flat_map large_of funcs) listed))
 
 -- ---- counts
 
 abbrev HasRecord : Instruction → Bool
 HasRecord inst = is_statepoint inst.op
 
-one_at : (place : ℕ) (op : Op) (rest : List Instruction) → length (records_at place op rest) ≡ cond (is_statepoint op) 1 0
-one_at place (Statepoint id callee types) rest = refl
-one_at place _ rest = refl
+one_at : (place : ℕ) (deopts : List Place) (op : Op) (rest : List Instruction) → length (records_at place deopts op rest) ≡ cond (is_statepoint op) 1 0
+one_at place deopts (Statepoint id callee types) rest = refl
+one_at place deopts _ rest = refl
 
 filtered_more : (b : Bool) (inst : Instruction) (insts : List Instruction) → length (cond b (inst ∷ insts) insts) ≡ cond b 1 0 + length insts
 filtered_more true inst insts = omega arith
 filtered_more false inst insts = omega arith
 
-pub length-records : (place : ℕ) (insts : List Instruction) → length (records_from place insts) ≡ length (filter HasRecord insts)
-length-records place [] = refl
-length-records place (inst ∷ insts) =
-    length-append (records_at place inst.op insts) (records_from (place + 1) insts)
-    ∙ ap (λ n. n + length (records_from (place + 1) insts)) (one_at place inst.op insts)
-    ∙ ap (λ n. cond (is_statepoint inst.op) 1 0 + n) (length-records (place + 1) insts)
+pub length-records : (constants : List ℕ) (place : ℕ) (insts : List Instruction) → length (records_from constants place insts) ≡ length (filter HasRecord insts)
+length-records constants place [] = refl
+length-records constants place (inst ∷ insts) =
+    let deopts = deopt_places constants inst in
+    length-append (records_at place deopts inst.op insts) (records_from constants (place + 1) insts)
+    ∙ ap (λ n. n + length (records_from constants (place + 1) insts)) (one_at place deopts inst.op insts)
+    ∙ ap (λ n. cond (is_statepoint inst.op) 1 0 + n) (length-records constants (place + 1) insts)
     ∙ sym (filtered_more (is_statepoint inst.op) inst (filter HasRecord insts))
 
-pub counted_is : (start : ℕ) (funcs : List Function) → counted_records (function_entries (laid_from start funcs)) ≡ length (flat_map records_of funcs)
-counted_is start [] = refl
-counted_is start (func ∷ funcs) =
+pub counted_is : (constants : List ℕ) (start : ℕ) (funcs : List Function) → counted_records (function_entries (laid_from start funcs)) ≡ length (flat_map (records_of constants) funcs)
+counted_is constants start [] = refl
+counted_is constants start (func ∷ funcs) =
     let laid = laid_from start (func ∷ funcs) in
     counted_step laid 0 (omega arith)
     ∙ ap (λ n. n + counted_records (function_entries (laid_from (next_start start func) funcs)))
-    (sym (length-filter HasRecord (instructions_of func.blocks)) ∙ sym (length-records 0 (instructions_of func.blocks)))
-    ∙ ap (λ n. length (records_of func) + n) (counted_is (next_start start func) funcs)
-    ∙ sym (length-append (records_of func) (flat_map records_of funcs))
+    (sym (length-filter HasRecord (instructions_of func.blocks)) ∙ sym (length-records constants 0 (instructions_of func.blocks)))
+    ∙ ap (λ n. length (records_of constants func) + n) (counted_is constants (next_start start func) funcs)
+    ∙ sym (length-append (records_of constants func) (flat_map (records_of constants) funcs))
 
-length-all_records : (funcs : List Function) → length (flat_map records_of funcs) ≡ length (filter HasRecord (flat_map (λ func. instructions_of func.blocks) funcs))
-length-all_records [] = refl
-length-all_records (func ∷ funcs) =
+length-all_records : (constants : List ℕ) (funcs : List Function)
+    → length (flat_map (records_of constants) funcs) ≡ length (filter HasRecord (flat_map (λ func. instructions_of func.blocks) funcs))
+length-all_records constants [] = refl
+length-all_records constants (func ∷ funcs) =
     let rest = flat_map (λ (one : Function). instructions_of one.blocks) funcs in
-    length-append (records_of func) (flat_map records_of funcs)
-    ∙ ap (λ n. n + length (flat_map records_of funcs)) (length-records 0 (instructions_of func.blocks))
-    ∙ ap (λ n. length (filter HasRecord (instructions_of func.blocks)) + n) (length-all_records funcs)
+    length-append (records_of constants func) (flat_map (records_of constants) funcs)
+    ∙ ap (λ n. n + length (flat_map (records_of constants) funcs)) (length-records constants 0 (instructions_of func.blocks))
+    ∙ ap (λ n. length (filter HasRecord (instructions_of func.blocks)) + n) (length-all_records constants funcs)
     ∙ sym (ap length (filter-append HasRecord (instructions_of func.blocks) rest) ∙ length-append (filter HasRecord (instructions_of func.blocks)) (filter HasRecord rest))
+
+-- at most 64 numbers for each record
+few_in : (func : Function) → IsTarget func → (front rest : List Instruction) → instructions_of func.blocks ≡ front ++ rest → AllByRecursion (λ inst. length inst.bundle ≤ 64) rest
+few_in func target front [] whole = tt
+few_in func target front (inst ∷ rest) whole =
+    let stands : slice_get (instructions_of func.blocks) (length front) ≡ Some inst = ap (λ (xs : List Instruction). slice_get xs (length front)) whole ∙ get_middle front inst rest in (
+      all_at (λ (one : Instruction). length one.bundle ≤ 64) (instructions_of func.blocks) (length front) inst target.bundles stands,
+      few_in func target (front ++ inst ∷ []) rest (whole ∙ sym (append_assoc front (inst ∷ []) rest)),
+    )
+
+all_numbers : (funcs : List Function) → All IsTarget funcs
+    → length (flat_map large_of funcs) ≤ 64 * length (filter HasRecord (flat_map (λ func. instructions_of func.blocks) funcs))
+all_numbers [] targets = omega arith
+all_numbers (func ∷ funcs) targets =
+    let insts = instructions_of func.blocks in
+    let rest = flat_map (λ (one : Function). instructions_of one.blocks) funcs in
+    let here = count_in insts (few_in func (All-head IsTarget func funcs targets) [] insts refl) in
+    let more = all_numbers funcs (All-tail IsTarget func funcs targets) in
+    let numbers = length-append (large_of func) (flat_map large_of funcs) in
+    let records = ap length (filter-append HasRecord insts rest) ∙ length-append (filter HasRecord insts) (filter HasRecord rest) in
+    omega (arith, here, more, numbers, records)
 
 -- ---- entries
 
@@ -201,18 +240,25 @@ targets_of content target k d below =
 pub target_map_fits : (content : ModuleContent) → IsTargetModule content → MapFits (map_of content)
 target_map_fits content target =
     let targets = targets_of content target in
+    let constants = constants_of content in
+    let numbers = flat_map large_of content.funcs in
+    let all = flat_map (λ (func : Function). instructions_of func.blocks) content.funcs in
     let few : length content.funcs ≤ 4096 = target.typed.limits.functions in
     let laid : length (layout_of content) ≡ length content.funcs = length-laid_from 4096 content.funcs in
     let short : length (function_entries (layout_of content)) ≤ length (layout_of content) = entries_short (layout_of content) in
-    let records : length (flat_map records_of content.funcs) ≡ length (filter HasRecord (flat_map (λ func. instructions_of func.blocks) content.funcs)) = length-all_records content.funcs in
+    let records : length (flat_map (records_of constants) content.funcs) ≡ length (filter HasRecord all) = length-all_records constants content.funcs in
+    let statepoints : length (filter HasRecord all) < 2 ^ 26 = target.typed.small in
+    let large : length numbers ≤ 64 * length (filter HasRecord all) = all_numbers content.funcs targets in
+    let shorter : length constants ≤ 0 + length numbers = fold_length [] numbers in
+    let few_numbers : length constants < 2 ^ 32 = omega arith in
     record {
       few_functions = omega arith;
-      few_constants = omega arith;
-      few_records = omega (arith, target.typed.small, records);
+      few_constants = few_numbers;
+      few_records = omega arith;
       functions = entries_fit 4096 content.funcs (omega arith) targets;
-      counted = counted_is 4096 content.funcs;
-      constants = tt;
-      records = all_records_fit content.funcs targets;
+      counted = counted_is constants 4096 content.funcs;
+      constants = fold_words [] numbers tt (all_words content.funcs);
+      records = all_records_fit constants few_numbers content.funcs targets (all_listed [] numbers);
     }
 
 pub target_map_is_map : (content : ModuleContent) → IsTargetModule content → IsMap (map_of content)

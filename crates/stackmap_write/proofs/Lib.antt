@@ -1,5 +1,6 @@
 mod Samples
 pub mod AppendLemmas
+pub mod ConstantLaws
 pub mod EntryLemmas
 pub mod RecordLemmas
 pub mod MapLemmas

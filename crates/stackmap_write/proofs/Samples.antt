@@ -1,6 +1,6 @@
 -- The maps of small modules by computation, as a check that the definitions say what is meant.
-use Rattle.std.proofs.Common.{◌≡◌, refl, ℕ, ◌^◌, ◌-◌, List, [], ◌∷◌, Some, None, codes}
-use Rattle.std.specs.Prelude.{pos}
+use Rattle.std.proofs.Common.{◌≡◌, refl, ℕ, ◌^◌, ◌-◌, List, [], ◌∷◌, ◌++◌, length, Some, None, codes}
+use Rattle.std.specs.Prelude.{ℤ, pos, neg_ℤ}
 use Rattle.ir_ast.specs.declared.modules.Form.TheVariants.{Rewritten}
 use Rattle.ir_ast.specs.declared.ops.Callee.{Callee}
 use Rattle.ir_ast.specs.declared.ops.Callee.TheVariants as callees
@@ -16,7 +16,9 @@ use Rattle.ir_ast.specs.Funcs.{Function}
 use Rattle.ir_ast.specs.Modules.{ModuleContent}
 use Rattle.frame_forms.specs.FrameSizes.{frame_words}
 use Rattle.map_bytes.specs.declared.values.Place.{Place}
-use Rattle.map_bytes.specs.Maps.{MapRecord}
+use Rattle.map_bytes.specs.Tables.{padded, functions_then, constants_then, places_then, live_outs_then, record_then, records_then, behind_functions, map_format}
+use Rattle.map_bytes.specs.Maps.{MapRecord, StackMap, map_bytes, map_numbers, record_bytes, record_numbers}
+use Rattle.map_bytes.specs.Formats.{laid}
 use Rattle.stackmap_write.specs.ModuleMaps.{map_of}
 
 -- ---- modules
@@ -152,3 +154,95 @@ with_bundle = record {
 
 bundle_words : frame_words (function (codes "g") Void (with_bundle ∷ return_void ∷ [])) ≡ 3
 bundle_words = refl
+
+-- ---- bundles
+
+abbrev keeping : Instruction → List (Ty × Operand) → Instruction
+keeping call bundle = record call { bundle = bundle }
+
+abbrev read_number : Instruction
+read_number = gives (ops.Call callees.Read []) (Int 64) []
+
+-- the bits of a negative number
+abbrev minus : ℕ → ℕ → Operand
+minus width number = literal (2 ^ width - number)
+
+-- an integer that was read, a derived pointer, a small and a large literal and `null` are kept over the call of @u
+abbrev keeps_five : ModuleContent
+keeps_five = module_of
+    (f
+    ∷ function (codes "main") (Int 64)
+    (poll ∷ new_object ∷ result 1 ∷ byte (value 2) 8 ∷ read_number
+    ∷ keeping (to_f (value 2 ∷ value 3 ∷ []))
+    ((Int 64, value 4) ∷ (Ptr, value 3) ∷ (Int 32, minus 32 5) ∷ (Int 64, literal 5000000000) ∷ (Ptr, operands.Null) ∷ [])
+    ∷ relocate 5 0 0 ∷ relocate 5 0 1 ∷ return (literal 0) ∷ [])
+    ∷ function (codes "u") Void (poll ∷ to_f [] ∷ return_void ∷ []) ∷ [])
+
+abbrev fixed : ℤ → Place
+fixed number = record constant_0 { offset = number }
+
+abbrev listed : ℕ → Place
+listed place = record { kind = 5; size = 8; register = 0; offset = pos place }
+
+abbrev with_deopts : ℕ → List Place → List Place → MapRecord
+with_deopts offset deopts pairs = record {
+  id = 2882400000;
+  offset = offset;
+  places = constant_0 ∷ constant_0 ∷ fixed (pos (length deopts)) ∷ (deopts ++ pairs);
+  live_outs = [];
+}
+
+abbrev five_kept : MapRecord
+five_kept = with_deopts 32 (slot_at 16 ∷ slot_at 8 ∷ fixed (neg_ℤ (pos 5)) ∷ listed 0 ∷ fixed (pos 0) ∷ []) (slot_at 0 ∷ slot_at 0 ∷ slot_at 0 ∷ slot_at 8 ∷ [])
+
+abbrev keeps_five_map : StackMap
+keeps_five_map = record {
+  functions = record { address = 4096; frame_bytes = 0; records = 1 } ∷ record { address = 4112; frame_bytes = 24; records = 3 }
+      ∷ record { address = 4160; frame_bytes = 0; records = 2 } ∷ [];
+  constants = 5000000000 ∷ [];
+  records = at_offset 4 [] ∷ at_offset 4 [] ∷ at_offset 12 [] ∷ five_kept ∷ at_offset 4 [] ∷ at_offset 8 [] ∷ [];
+}
+
+keeps_five_is : map_of keeps_five ≡ keeps_five_map
+keeps_five_is = refl
+
+-- twelve locations, 168 bytes
+keeps_five_record : length (record_bytes five_kept) ≡ 168
+unfolding record_bytes record_numbers laid padded places_then live_outs_then record_then
+keeps_five_record = refl
+
+keeps_five_bytes : length (map_bytes keeps_five_map) ≡ 584
+unfolding map_bytes laid map_format map_numbers record_numbers padded functions_then constants_then places_then live_outs_then record_then records_then behind_functions
+keeps_five_bytes = refl
+
+-- the least small number, and bits whose width decides what number they are; the next lower number is listed, once for two uses
+abbrev keeps_edges : ModuleContent
+keeps_edges = module_of
+    (f
+    ∷ function (codes "main") (Int 64)
+    (keeping (to_f []) ((Int 64, minus 64 2147483648) ∷ (Int 32, literal 4294967295) ∷ (Int 1, literal 1) ∷ (Int 64, minus 64 2147483649) ∷ [])
+    ∷ keeping (to_f []) ((Int 64, literal 2147483648) ∷ (Int 64, minus 64 2147483649) ∷ (Int 64, literal 2147483647) ∷ [])
+    ∷ return (literal 0) ∷ []) ∷ [])
+
+keeps_edges_map : map_of keeps_edges ≡ record {
+  functions = record { address = 4096; frame_bytes = 0; records = 1 } ∷ record { address = 4112; frame_bytes = 0; records = 2 } ∷ [];
+  constants = (2 ^ 64 - 2147483649) ∷ 2147483648 ∷ [];
+  records = at_offset 4 []
+      ∷ with_deopts 4 (fixed (neg_ℤ (pos 2147483648)) ∷ fixed (neg_ℤ (pos 1)) ∷ fixed (neg_ℤ (pos 1)) ∷ listed 0 ∷ []) []
+      ∷ with_deopts 8 (listed 1 ∷ listed 0 ∷ fixed (pos 2147483647) ∷ []) [] ∷ [];
+}
+keeps_edges_map = refl
+
+-- a pointer that is kept beside `null`, its base
+abbrev keeps_behind_null : ModuleContent
+keeps_behind_null = module_of
+    (f
+    ∷ function (codes "main") (Int 64)
+    (byte operands.Null 5 ∷ keeping (to_f (operands.Null ∷ value 0 ∷ [])) ((Ptr, value 0) ∷ []) ∷ relocate 1 0 1 ∷ return (literal 0) ∷ []) ∷ [])
+
+keeps_behind_null_map : map_of keeps_behind_null ≡ record {
+  functions = record { address = 4096; frame_bytes = 0; records = 1 } ∷ record { address = 4112; frame_bytes = 16; records = 1 } ∷ [];
+  constants = [];
+  records = at_offset 4 [] ∷ with_deopts 12 (slot_at 8 ∷ []) (slot_at 0 ∷ slot_at 8 ∷ []) ∷ [];
+}
+keeps_behind_null_map = refl

@@ -1,9 +1,10 @@
 -- The bytes of records are as many as their sizes say.
-use Rattle.std.proofs.Common.{◌≡◌, ◌∙◌, ℕ, suc, ◌+◌, ◌*◌, ◌%◌, ◌^◌, ◌<◌, ◌≤◌, Bool, true, false, cond, eqb, List, [], ◌∷◌, ◌++◌, length, get_or, take, drop, map, count_by, refl, ap, sym, arith, length-append, ne_eqb, eq-eqb}
+use Rattle.std.proofs.Common.{◌≡◌, ◌∙◌, ℕ, ◌+◌, ◌*◌, ◌%◌, ◌^◌, ◌<◌, ◌≤◌, Bool, true, false, cond, eqb, List, [], ◌∷◌, ◌++◌, length, get_or, take, drop, map, count_by, refl, ap, sym, arith, length-append}
 use Rattle.std.specs.List.{flat_map, AllByRecursion}
 use Rattle.std.proofs.lemmas.Grind.{flat_map-append}
 use Rattle.std.proofs.lemmas.List.Sums.{sum_by-cons}
 use Rattle.list_laws.proofs.Places.{drop_item}
+use Rattle.byteorder.specs.Endian.{little_bytes}
 use Rattle.ir_ast.specs.declared.ops.Op.{Op}
 use Rattle.ir_ast.specs.declared.ops.Op.TheVariants.{Statepoint, GcRelocate}
 use Rattle.ir_ast.specs.declared.ops.Operand.{Operand}
@@ -15,12 +16,15 @@ use Rattle.ir_cfg.specs.Statepoints.{is_relocate}
 use Rattle.frame_forms.specs.Groups.{group_size}
 use Rattle.frame_forms.specs.ModuleLayouts.{layout_of}
 use Rattle.map_bytes.specs.Fits.{MapFits, RecordFits}
+use Rattle.map_bytes.specs.declared.values.Place.{Place}
 use Rattle.map_bytes.specs.Maps.{MapRecord, function_bytes, header_bytes, map_bytes, record_bytes}
-use Rattle.map_bytes.specs.Reads.{padding_size}
+use Rattle.map_bytes.specs.Reads.{places_end}
 use Rattle.map_bytes.proofs.PartLaws.{map_bytes-parts}
-use Rattle.map_bytes.proofs.ReadLaws.{length-functions, length-record}
-use Rattle.stackmap_write.specs.ModuleMaps.{entries_of, group_places, map_of, member_places, pair_places, records_at, records_from, records_of, statepoint_record}
-use Rattle.stackmap_write.specs.Sizes.{record_size, records_size, size_at}
+use Rattle.map_bytes.proofs.ReadLaws.{length-constants, length-functions, length-record}
+use Rattle.stackmap_write.specs.Constants.{constants_of}
+use Rattle.stackmap_write.specs.ModuleMaps.{deopt_places, entries_of, group_places, map_of, member_places, pair_places, records_at, records_from, records_of, statepoint_record}
+use Rattle.stackmap_write.specs.Sizes.{places_of, record_size, records_size, size_at}
+use Rattle.stackmap_write.proofs.PlaceFitLaws.{deopts_count}
 use Rattle.stackmap_write.proofs.RecordLemmas.{function_step, records_joined}
 
 -- ---- a record
@@ -38,48 +42,46 @@ members_count (inst ∷ group) =
     let sum = sum_by-cons (λ (i : Instruction). cond (is_relocate i.op) 1 0) inst group in
     omega (arith, split, one, more, sum)
 
--- three locations and an even number of others end at no multiple of 8
-odd_padding : (relocates places : ℕ) → places ≡ 3 + 2 * relocates → padding_size (16 + 12 * places) ≡ 4
-odd_padding relocates places is = ap (λ b. cond b 0 4) (ne_eqb ((16 + 12 * places) % 8) 0 (λ even. omega arith))
-
-pub record_length : (id offset : ℕ) (group : List Instruction) → length (record_bytes (statepoint_record id offset group)) ≡ record_size group
-record_length id offset group =
-    let relocates = count_by (λ inst. is_relocate inst.op) group in
-    let places = length (group_places group) in
-    let members : length (flat_map member_places group) ≡ 2 * relocates = members_count group in
-    let count : places ≡ 3 + 2 * relocates = omega (arith, members) in
-    let padding = odd_padding relocates places count in
-    let whole = length-record (statepoint_record id offset group) in
-    omega (arith, whole, padding, count)
+pub record_length : (id offset : ℕ) (deopts : List Place) (group : List Instruction)
+    → length (record_bytes (statepoint_record id offset deopts group)) ≡ record_size (length deopts) group
+record_length id offset deopts group =
+    let members : length (flat_map member_places group) ≡ 2 * count_by (λ inst. is_relocate inst.op) group = members_count group in
+    let split = length-append deopts (flat_map member_places group) in
+    let count : length (group_places deopts group) ≡ places_of (length deopts) group = omega (arith, members, split) in
+    let whole = length-record (statepoint_record id offset deopts group) in
+    let ends : places_end (length (group_places deopts group)) ≡ places_end (places_of (length deopts) group) = ap places_end count in
+    omega (arith, whole, ends)
 
 -- ---- records
 
-at_length : (place : ℕ) (op : Op) (rest : List Instruction) → length (flat_map record_bytes (records_at place op rest)) ≡ size_at op rest
-at_length place (Statepoint id callee types) rest =
+at_length : (place : ℕ) (deopts : List Place) (op : Op) (rest : List Instruction) → length (flat_map record_bytes (records_at place deopts op rest)) ≡ size_at (length deopts) op rest
+at_length place deopts (Statepoint id callee types) rest =
     let op = Statepoint id callee types in
     let size = group_size op rest in
-    let one = record_length id (4 * (place + 1 + size)) (take size rest) in
-    let joined = length-append (record_bytes (statepoint_record id (4 * (place + 1 + size)) (take size rest))) [] in
+    let one = record_length id (4 * (place + 1 + size)) deopts (take size rest) in
+    let joined = length-append (record_bytes (statepoint_record id (4 * (place + 1 + size)) deopts (take size rest))) [] in
     omega (arith, joined, one)
-at_length place _ rest = refl
+at_length place deopts _ rest = refl
 
 -- wherever they stand
-pub records_length : (place : ℕ) (insts : List Instruction) → length (flat_map record_bytes (records_from place insts)) ≡ records_size insts
-records_length place [] = refl
-records_length place (inst ∷ insts) =
-    ap length (flat_map-append record_bytes (records_at place inst.op insts) (records_from (place + 1) insts))
-    ∙ (length-append (flat_map record_bytes (records_at place inst.op insts)) (flat_map record_bytes (records_from (place + 1) insts))
-    ∙ (ap (λ n. n + length (flat_map record_bytes (records_from (place + 1) insts))) (at_length place inst.op insts)
-    ∙ ap (λ n. size_at inst.op insts + n) (records_length (place + 1) insts)))
+pub records_length : (constants : List ℕ) (place : ℕ) (insts : List Instruction) → length (flat_map record_bytes (records_from constants place insts)) ≡ records_size insts
+records_length constants place [] = refl
+records_length constants place (inst ∷ insts) =
+    let deopts = deopt_places constants inst in
+    let later = records_from constants (place + 1) insts in
+    ap length (flat_map-append record_bytes (records_at place deopts inst.op insts) later)
+    ∙ (length-append (flat_map record_bytes (records_at place deopts inst.op insts)) (flat_map record_bytes later)
+    ∙ (ap (λ n. n + length (flat_map record_bytes later)) (at_length place deopts inst.op insts ∙ ap (λ n. size_at n inst.op insts) (deopts_count constants inst))
+    ∙ ap (λ n. size_at (length inst.bundle) inst.op insts + n) (records_length constants (place + 1) insts)))
 
 size_joined : (block after : List Instruction) → EndsAtTerminator block → records_size (block ++ after) ≡ records_size block + records_size after
 size_joined block after ends =
-    sym (records_length 0 (block ++ after))
-    ∙ (ap (λ records. length (flat_map record_bytes records)) (records_joined 0 block after ends)
-    ∙ (ap length (flat_map-append record_bytes (records_from 0 block) (records_from (0 + length block) after))
-    ∙ (length-append (flat_map record_bytes (records_from 0 block)) (flat_map record_bytes (records_from (0 + length block) after))
-    ∙ (ap (λ n. n + length (flat_map record_bytes (records_from (0 + length block) after))) (records_length 0 block)
-    ∙ ap (λ n. records_size block + n) (records_length (0 + length block) after)))))
+    sym (records_length [] 0 (block ++ after))
+    ∙ (ap (λ records. length (flat_map record_bytes records)) (records_joined [] 0 block after ends)
+    ∙ (ap length (flat_map-append record_bytes (records_from [] 0 block) (records_from [] (0 + length block) after))
+    ∙ (length-append (flat_map record_bytes (records_from [] 0 block)) (flat_map record_bytes (records_from [] (0 + length block) after))
+    ∙ (ap (λ n. n + length (flat_map record_bytes (records_from [] (0 + length block) after))) (records_length [] 0 block)
+    ∙ ap (λ n. records_size block + n) (records_length [] (0 + length block) after)))))
 
 -- of the blocks from one on
 pub block_sizes : (blocks : List BasicBlock) (k : ℕ) (block : BasicBlock) (insts : List Instruction) → k < length blocks → block ≡ get_or blocks k block
@@ -90,16 +92,16 @@ block_sizes blocks k block insts below is same ends =
     ∙ (ap (λ first. records_size (first ++ instructions_of (drop (k + 1) blocks))) (sym same) ∙ size_joined insts (instructions_of (drop (k + 1) blocks)) ends)
 
 -- of the functions from one on
-pub function_sizes : (funcs : List LinedFunction) (contents : List Function) (k : ℕ) (func : LinedFunction) → map content_of funcs ≡ contents → k < length funcs
+pub function_sizes : (constants : List ℕ) (funcs : List LinedFunction) (contents : List Function) (k : ℕ) (func : LinedFunction) → map content_of funcs ≡ contents → k < length funcs
     → func ≡ get_or funcs k func
-    → length (flat_map record_bytes (flat_map records_of (drop k contents)))
-    ≡ records_size (instructions_of func.content.blocks) + length (flat_map record_bytes (flat_map records_of (drop (k + 1) contents)))
-function_sizes funcs contents k func same below is =
-    let later = flat_map records_of (drop (k + 1) contents) in
-    ap (λ records. length (flat_map record_bytes records)) (function_step funcs contents k func same below is)
-    ∙ (ap length (flat_map-append record_bytes (records_of func.content) later)
-    ∙ (length-append (flat_map record_bytes (records_of func.content)) (flat_map record_bytes later)
-    ∙ ap (λ n. n + length (flat_map record_bytes later)) (records_length 0 (instructions_of func.content.blocks))))
+    → length (flat_map record_bytes (flat_map (records_of constants) (drop k contents)))
+    ≡ records_size (instructions_of func.content.blocks) + length (flat_map record_bytes (flat_map (records_of constants) (drop (k + 1) contents)))
+function_sizes constants funcs contents k func same below is =
+    let later = flat_map (records_of constants) (drop (k + 1) contents) in
+    ap (λ records. length (flat_map record_bytes records)) (function_step constants funcs contents k func same below is)
+    ∙ (ap length (flat_map-append record_bytes (records_of constants func.content) later)
+    ∙ (length-append (flat_map record_bytes (records_of constants func.content)) (flat_map record_bytes later)
+    ∙ ap (λ n. n + length (flat_map record_bytes later)) (records_length constants 0 (instructions_of func.content.blocks))))
 
 -- ---- the map
 
@@ -108,28 +110,32 @@ unfolding header_bytes
 header_length content = omega arith
 
 pub map_length : (content : ModuleContent)
-    → length (map_bytes (map_of content)) ≡ 16 + 24 * length (entries_of (layout_of content)) + length (flat_map record_bytes (flat_map records_of content.funcs))
+    → length (map_bytes (map_of content))
+    ≡ 16 + 24 * length (entries_of (layout_of content)) + 8 * length (constants_of content) + length (flat_map record_bytes (flat_map (records_of (constants_of content)) content.funcs))
 map_length content =
     let entries = flat_map function_bytes (entries_of (layout_of content)) in
-    let records = flat_map record_bytes (flat_map records_of content.funcs) in
+    let constants = flat_map (little_bytes 8) (constants_of content) in
+    let records = flat_map record_bytes (flat_map (records_of (constants_of content)) content.funcs) in
     let header = header_length content in
-    let whole = ap length (map_bytes-parts (map_of content)) ∙ length-append (header_bytes (map_of content)) (entries ++ records) in
-    let parts = length-append entries records in
+    let whole = ap length (map_bytes-parts (map_of content)) ∙ length-append (header_bytes (map_of content)) (entries ++ (constants ++ records)) in
+    let parts = length-append entries (constants ++ records) in
+    let rest = length-append constants records in
     let heads = length-functions (entries_of (layout_of content)) in
-    omega (arith, whole, parts, heads, header)
+    let numbers = length-constants (constants_of content) in
+    omega (arith, whole, parts, rest, heads, numbers, header)
 
 -- ---- numbers that fit
 
-records_short : (records : List MapRecord) → AllByRecursion (RecordFits 0) records → length (flat_map record_bytes records) ≤ 2097152 * length records
-records_short [] fits = omega arith
-records_short (one ∷ records) fits =
+records_short : (constants : ℕ) (records : List MapRecord) → AllByRecursion (RecordFits constants) records → length (flat_map record_bytes records) ≤ 2097152 * length records
+records_short constants [] fits = omega arith
+records_short constants (one ∷ records) fits =
     let split = length-append (record_bytes one) (flat_map record_bytes records) in
     let here = length-record one in
     let few : length one.places < 2 ^ 16 = fits.0.few_places in
     let live : length one.live_outs < 2 ^ 16 = fits.0.few_live_outs in
     let first = at_most (eqb ((16 + 12 * length one.places) % 8) 0) in
     let second = at_most (eqb ((4 + 4 * length one.live_outs) % 8) 0) in
-    let more = records_short records fits.1 in
+    let more = records_short constants records fits.1 in
     omega (arith, split, here, few, live, first, second, more)
   where
     at_most : (b : Bool) → cond b 0 4 ≤ 4
@@ -138,7 +144,9 @@ records_short (one ∷ records) fits =
 
 pub map_short : (content : ModuleContent) → MapFits (map_of content) → length (map_bytes (map_of content)) < 2 ^ 60
 map_short content fits =
-    let few : length (flat_map records_of content.funcs) < 2 ^ 32 = fits.few_records in
+    let constants = constants_of content in
+    let few : length (flat_map (records_of constants) content.funcs) < 2 ^ 32 = fits.few_records in
     let functions : length (entries_of (layout_of content)) < 2 ^ 32 = fits.few_functions in
-    let records = records_short (flat_map records_of content.funcs) fits.records in
-    omega (arith, map_length content, few, functions, records)
+    let numbers : length constants < 2 ^ 32 = fits.few_constants in
+    let records = records_short (length constants) (flat_map (records_of constants) content.funcs) fits.records in
+    omega (arith, map_length content, few, functions, numbers, records)

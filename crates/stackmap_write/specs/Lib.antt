@@ -1,3 +1,4 @@
+pub mod Constants
 pub mod ModuleMaps
 pub mod Writing
 pub mod TargetMaps

@@ -1,6 +1,7 @@
 //! The stack map of a rewritten module, as bytes.
 #![tactic(auto)]
 
+mod constants;
 mod fields;
 mod heads;
 mod maps;

@@ -17,14 +17,18 @@ const HEADER: usize = 16;
 /// Bytes of a function's entry.
 const ENTRY: usize = 24;
 
-/// How many bytes the map of a module has.
-pub(crate) fn map_size(module: &Module, layouts: &Layouts) -> usize
+/// Bytes of a constant.
+const CONSTANT: usize = 8;
+
+/// How many bytes the map of a module has, with its number of constants.
+pub(crate) fn map_size(module: &Module, constants: usize, layouts: &Layouts) -> usize
+    requires constants { constants ≡ length (map_of «module».now.content).constants }
     requires of_module { layouts.now ≡ layout_of «module».now.content }
     requires fits { MapFits (map_of «module».now.content) }
     ensures { result ≡ length (map_bytes (map_of «module».now.content)) }
 {
     let funcs = module.funcs();
-    let mut size = HEADER + ENTRY * entry_count(layouts) as usize;
+    let mut size = HEADER + ENTRY * entry_count(layouts) as usize + CONSTANT * constants;
     for func in funcs {
         size += records_size(func);
     }
@@ -52,19 +56,22 @@ fn block_size(insts: &[Inst]) -> usize
     for (index, inst) in insts.iter().enumerate() {
         if let Op::Statepoint { .. } = inst.op() {
             let rest = &insts[index + 1..];
-            size += record_size(&rest[..group_size(inst, rest)]);
+            size += record_size(inst.bundle().len(), &rest[..group_size(inst, rest)]);
         }
     }
     size
 }
 
-// How many bytes the record of a group has.
-fn record_size(group: &[Inst]) -> usize
-    ensures { result ≡ record_size group.now }
+// How many bytes the record of a group has, with so many "deopt" locations.
+fn record_size(deopts: usize, group: &[Inst]) -> usize
+    requires { deopts < 2 ^ 59 }
+    ensures { result ≡ record_size deopts group.now }
 {
-    64 + 24
-        * group
-            .iter()
-            .filter(|inst| matches!(inst.op(), Op::GcRelocate))
-            .count()
+    let relocates = group
+        .iter()
+        .filter(|inst| matches!(inst.op(), Op::GcRelocate))
+        .count();
+    let places = 16 + 12 * (3 + deopts + 2 * relocates);
+    let padding = if places % 8 == 0 { 0 } else { 4 };
+    places + padding + 8
 }

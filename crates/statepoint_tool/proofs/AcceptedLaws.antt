@@ -40,4 +40,4 @@ pub sound_of_accepted : (text : List ℕ) (lines : List Line) → length text �
     → IsVerified (content_of text_forms.Rewritten lines) → IsSound (content_of text_forms.Rewritten lines)
 sound_of_accepted text lines within accepted none =
     let is = module_of_accepted text_forms.Rewritten text lines within accepted in
-    record { target = is.0; bundles = is.1; verified = none }
+    record { target = is.0; verified = none }

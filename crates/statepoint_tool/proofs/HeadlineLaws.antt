@@ -1,10 +1,12 @@
 -- The headline and what a yes of the verifier means, from the whole answer of a call.
 use Rattle.std.proofs.Common.{◌≡◌, ◌≤◌, ℕ, ◌⊎◌, inl, inr, List, [], length, Bool, true, false, Option, Some, None, Result, Ok, refl, sym, ap, subst, ◌∙◌}
 use Rattle.std.specs.Prelude.{ℤ}
+use Rattle.std.specs.List.{All}
 use Rattle.std.proofs.Math.Path.{fun_ext}
 use Rattle.sp_ids.specs.declared.ends.End.{End}
 use Rattle.sp_ids.specs.declared.ends.End.TheVariants as ended
 use Rattle.ir_ast.specs.declared.modules.Form.TheVariants as text_forms
+use Rattle.ir_ast.specs.Bundles.{HasNoBundle}
 use Rattle.ir_ast.specs.Modules.{ModuleContent}
 use Rattle.ir_lines.specs.Modules.{module_of}
 use Rattle.ir_lines.specs.Statements.{Line, lines_of}
@@ -153,9 +155,9 @@ module _ (words : List (List ℕ)) (given : Given) (places trace : Bool) (run : 
       let whole = written_as words files out notes status answer given (ended_with own.text found.outcome.end) told (by_running_rewritten runs) sure in
       let sound : IsSound moved.after = record {
         target = rewriting_is_target source moved.after is.0 moved.rewritten;
-        bundles = no_bundle source moved.after moved.rewritten is.1;
         verified = rewriting_is_verified source moved.after is.0 moved.rewritten;
       } in
+      let bare = no_bundle source moved.after moved.rewritten is.1 in
       let seen = seen_here moved.after sound run.input run.plan run.request.steps moved.machine moved.gives in
       let meant_again = (rewriting_keeps_meaning source moved.after is.0 moved.rewritten run.input (go run.plan) run.request.steps seen.outcome).1 seen.gives in
       let one = gives_one (source_setting source (go run.plan) run.request.steps) run.input seen.outcome found.outcome meant_again found.gives in
@@ -165,11 +167,11 @@ module _ (words : List (List ℕ)) (given : Given) (places trace : Bool) (run : 
         text = own.text;
         shown =
             sources_are_shown source moved.after moved.rewritten run.plan places trace found.outcome own.text
-            (verified_are_shown moved.after sound run.input run.plan run.request.steps places trace found.outcome moved.machine own.text own.writes
+            (verified_are_shown moved.after sound bare run.input run.plan run.request.steps places trace found.outcome moved.machine own.text own.writes
             (subst (λ (o : Outcome). IsSeen moved.after o moved.machine) one seen.seen));
         writes = writes_run own.text found.outcome.end status out notes found.final whole;
         moved = moved;
-        machine_writes = quiet_is_whole moved.after run.input run.plan run.request.steps places trace moved.machine own.text own.writes;
+        machine_writes = quiet_is_whole moved.after bare run.input run.plan run.request.steps places trace moved.machine own.text own.writes;
         module_text = part_written Text moved.after moved.rewritten;
         bytes = part_written MapBytes moved.after moved.rewritten;
         is_map = record { allowed = target_map_is_map moved.after (rewriting_is_target source moved.after is.0 moved.rewritten); spelled = refl };
@@ -216,6 +218,9 @@ module _ (words : List (List ℕ)) (given : Given) (places trace : Bool) (run : 
   own_sound : length run.text ≤ 16777216 → IsSound target
   own_sound within = sound_of_accepted run.text run.lines within run.accepted run.known
 
+  own_bare : length run.text ≤ 16777216 → All HasNoBundle target.funcs
+  own_bare within = (module_of_accepted text_forms.Rewritten run.text run.lines within run.accepted).1
+
   -- the only output of a run of a verified module
   record OwnOutput : Type 0 where
     meant : Outcome
@@ -241,7 +246,7 @@ module _ (words : List (List ℕ)) (given : Given) (places trace : Bool) (run : 
         seen = found.seen;
         text = own.text;
         writes = own.writes;
-        shown = verified_are_shown target sound run.input run.plan run.request.steps places trace found.outcome ended.outcome own.text own.writes found.seen;
+        shown = verified_are_shown target sound (own_bare within) run.input run.plan run.request.steps places trace found.outcome ended.outcome own.text own.writes found.seen;
         final = gives_final _ run.input found.outcome found.gives;
         ends = subst (λ (end : End). Ends words given (ended_with own.text end)) found.seen.end (by_executing executes ended.outcome own.text own.writes);
       }
@@ -259,7 +264,7 @@ module _ (words : List (List ℕ)) (given : Given) (places trace : Bool) (run : 
         writes = writes_run own.text own.meant.end status out notes own.final whole;
         machine = own.machine;
         seen = own.seen;
-        machine_writes = quiet_is_whole target run.input run.plan run.request.steps places trace own.machine own.text own.writes;
+        machine_writes = quiet_is_whole target (own_bare within) run.input run.plan run.request.steps places trace own.machine own.text own.writes;
       }
 
 pub RunsVerified-answer : (words : List (List ℕ)) (files : FilesSeen) (out notes : SinkSeen) (status : Status) → IsAnswer words files out notes status → RunsVerified words files out notes status

@@ -121,7 +121,6 @@ pub meant_by : (content after : ModuleContent) â†’ IsRewrittenOf content after â
 meant_by content after is input plan steps machine gives =
     let sound : IsSound after = record {
       target = is.executable.target;
-      bundles = is.executable.bundles;
       verified = rewriting_is_verified content after is.source is.rewritten;
     } in
     let found = seen_here after sound input plan steps machine gives in record {

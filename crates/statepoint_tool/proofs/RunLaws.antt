@@ -6,7 +6,7 @@ use Rattle.move_plan.specs.Plans.{go}
 use Rattle.tool_io.specs.Sink.{append_known, AppendsFront}
 use Rattle.tool_io.proofs.AppendLaws.{append_known-then, AppendsFront-front, AppendsFront-same, AppendsFront-second}
 use Rattle.ir_ast.specs.Modules.{ModuleContent}
-use Rattle.ir_meaning.specs.declared.interpret.Ran.{Ran}
+use Rattle.run_tasks.specs.declared.runs.Ran.{Ran}
 use Rattle.ir_meaning.specs.References.{IsRun, WritesFrontOfRun}
 use Rattle.ir_machine.specs.declared.run.Shows.{Shows}
 use Rattle.object_meaning.specs.Outcomes.{Outcome, whole_text}

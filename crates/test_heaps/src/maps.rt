@@ -1,6 +1,6 @@
 //! A map as a list of records, for the walk.
 
-ghost use Rattle.std.specs.Prelude.{◌≡◌};
+ghost use Rattle.std.specs.Prelude.{◌≡◌, []};
 ghost use Rattle.std.specs.Option.{option_map};
 ghost use Rattle.test_heaps.specs.Listings.{entry_of, found_listed};
 
@@ -90,8 +90,15 @@ impl<'a> FrameMap for Records<'a> {
 
     ghost found = { λ map. found_listed map.records.now };
 
+    ghost constants = { λ map. [] };
+
     fn find(&self, return_address: u64) -> Option<Found<'a>> {
         find_listed(self.records, return_address)
+    }
+
+    // A walk asks for no constant.
+    fn constant(&self, _index: u32) -> u64 {
+        0
     }
 }
 

@@ -1,8 +1,6 @@
 //! The layouts and the map of a text's module.
 ghost use Rattle.std.specs.Prelude.{◌≤◌, length};
-ghost use Rattle.std.specs.List.{All};
 ghost use Rattle.sp_ids.specs.declared.limits.TheConstants.{FILE_BYTES};
-ghost use Rattle.ir_ast.specs.Bundles.{HasNoBundle};
 ghost use Rattle.ir_cfg.specs.TargetModules.{IsTargetModule};
 
 use frame_slots::Layouts;
@@ -86,8 +84,7 @@ pub(crate) fn made_often(alloc: Global, text: &[u8], rounds: u32) -> Result<usiz
 }
 
 fn make(alloc: Global, whole: &Module) -> Result<Made, Refusal>
-    requires target { IsTargetModule whole.now.content }
-    requires no_bundle { All HasNoBundle whole.now.content.funcs }
+    requires { IsTargetModule whole.now.content }
 {
     let layouts = Layouts::of(alloc, whole)?;
     let bytes = write(alloc, whole, &layouts)?;

@@ -25,6 +25,7 @@ pub fn closing<O: Sink>(
     ensures failed { OnErr result (Rose (O.faults out.old) (O.faults out.new)) }
     ensures count { O.faults out.old ≤ O.faults out.new }
     ensures by_one_put { length (closing_line end func.now steps events) ≤ 8192 → OnOk result (O.puts out.new ≡ add_told (O.puts out.old) (closing_line end func.now steps events)) }
+    ensures unput { length (closing_line end func.now steps events) ≤ 8192 → OnErr result (O.puts out.new ≡ O.puts out.old) }
 {
     put_text(&(EndWords { end, func }, Counts { steps, events }), out)
 }

@@ -42,6 +42,7 @@ pub fn note_line<O: Sink>(note: Note<'_>, notes: &mut O) -> Result<(), Failed>
     ensures failed { OnErr result (Rose (O.faults notes.old) (O.faults notes.new)) }
     ensures count { O.faults notes.old ≤ O.faults notes.new }
     ensures by_one_put { length (note_text note.entry) ≤ 8192 → OnOk result (O.puts notes.new ≡ add_told (O.puts notes.old) (note_text note.entry)) }
+    ensures unput { length (note_text note.entry) ≤ 8192 → OnErr result (O.puts notes.new ≡ O.puts notes.old) }
 {
     put_text(&Line(note), notes)
 }

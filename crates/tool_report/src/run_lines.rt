@@ -25,6 +25,7 @@ pub fn event_line<O: Sink>(
     ensures failed { OnErr result (Rose (O.faults out.old) (O.faults out.new)) }
     ensures count { O.faults out.old ≤ O.faults out.new }
     ensures by_one_put { OnOk result (O.puts out.new ≡ add_told (O.puts out.old) (event_line event poll verdict)) }
+    ensures unput { OnErr result (O.puts out.new ≡ O.puts out.old) }
 {
     out.put(event_text(event, poll, verdict).as_slice())
 }
@@ -36,6 +37,7 @@ pub fn moved_line<O: Sink>(obj: ObjId, old: u64, new: u64, out: &mut O) -> Resul
     ensures failed { OnErr result (Rose (O.faults out.old) (O.faults out.new)) }
     ensures count { O.faults out.old ≤ O.faults out.new }
     ensures by_one_put { OnOk result (O.puts out.new ≡ add_told (O.puts out.old) (moved_line obj.0 old new)) }
+    ensures unput { OnErr result (O.puts out.new ≡ O.puts out.old) }
 {
     out.put(moved_text(obj.0, old, new).as_slice())
 }
@@ -55,6 +57,7 @@ pub fn slot_line<O: Sink>(
     ensures failed { OnErr result (Rose (O.faults out.old) (O.faults out.new)) }
     ensures count { O.faults out.old ≤ O.faults out.new }
     ensures by_one_put { OnOk result (O.puts out.new ≡ add_told (O.puts out.old) (slot_line task.0 frame offset old new)) }
+    ensures unput { OnErr result (O.puts out.new ≡ O.puts out.old) }
 {
     out.put(slot_text(task.0, frame, offset, old, new).as_slice())
 }
@@ -74,6 +77,7 @@ pub fn place_line<O: Sink>(
     ensures failed { OnErr result (Rose (O.faults out.old) (O.faults out.new)) }
     ensures count { O.faults out.old ≤ O.faults out.new }
     ensures by_one_put { length (place_line obj.0 layout.now count address) ≤ 8192 → OnOk result (O.puts out.new ≡ add_told (O.puts out.old) (place_line obj.0 layout.now count address)) }
+    ensures unput { length (place_line obj.0 layout.now count address) ≤ 8192 → OnErr result (O.puts out.new ≡ O.puts out.old) }
 {
     put_text(
         &(

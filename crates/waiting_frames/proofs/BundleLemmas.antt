@@ -1,14 +1,16 @@
 -- The bundle of the line at which a frame stands, and the line that shows it.
 use Rattle.std.proofs.Common.{◌≡◌, ℕ, zero, suc, true, false, List, [], ◌∷◌, ◌++◌, map, drop, refl, sym, ap, ◌∙◌, append-nil, append_assoc}
+use Rattle.std.proofs.Math.Dec.{eqb-suc-zero}
+use Rattle.std.proofs.lemmas.Bool.{true≢false}
 use Rattle.std.specs.Prelude.{Bool, ◌==◌, not, length, slice_get, if◌then◌else◌, codes, decimal}
-use Rattle.std.specs.List.{flat_map}
+use Rattle.std.specs.List.{concat, flat_map}
 use Rattle.std.specs.Option.{option_map_or}
 use Rattle.ir_ast.specs.declared.types.Ty.{Ty}
 use Rattle.ir_ast.specs.declared.ops.Operand.{Operand}
 use Rattle.ir_ast.specs.Insts.{Instruction}
 use Rattle.object_meaning.specs.Lines.{Line, poll, numbered, following, retreats, lines_from}
 use Rattle.object_meaning.specs.Registers.{value}
-use Rattle.object_meaning.specs.Texts.{shown, bundle_of, function_name}
+use Rattle.object_meaning.specs.Texts.{shown, bundle_line, bundle_of, function_name}
 use Rattle.object_store.specs.declared.words.Word.{Word}
 use Rattle.object_store.specs.Words.{datum}
 use Rattle.flat_code.specs.Codes.{FlatModule, exit_lines}
@@ -17,7 +19,7 @@ use Rattle.flat_code.specs.declared.spots.Due.TheVariants.{Front, Line as Next, 
 use Rattle.flat_code.specs.Spots.{lines_due}
 use Rattle.piece_writer.specs.Lists.{led}
 use Rattle.waiting_frames.specs.Frames.{Seen, exit_frame}
-use Rattle.waiting_frames.specs.Shown.{frame_text, bundle_text, is_at_instruction}
+use Rattle.waiting_frames.specs.Shown.{frame_lines, frame_text, bundle_text, is_at_instruction}
 
 -- ---- where a frame stands
 
@@ -60,21 +62,35 @@ nested one two three four five six = simp append_assoc refl
 abbrev values : List Word → Ty × Operand → List ℕ
 values registers entry = shown entry.0 (value (map datum registers) entry.1)
 
-pub frame_text_is : (code : FlatModule) (number : ℕ) (seen : Seen) (entry : Ty × Operand) (entries : List (Ty × Operand))
+pub frame_lines_are : (code : FlatModule) (number : ℕ) (seen : Seen) (entry : Ty × Operand) (entries : List (Ty × Operand))
     → bundle_of (exit_lines code seen.spot.func seen.spot.segment) ≡ entry ∷ entries
-    → frame_text code number (exit_frame code seen)
-    ≡ bundle_text number (function_name code.content seen.spot.func) seen.registers (entry ∷ entries)
-frame_text_is code number seen entry entries bundle =
+    → frame_lines code number (exit_frame code seen)
+    ≡ bundle_text number (function_name code.content seen.spot.func) seen.registers (entry ∷ entries) ∷ []
+frame_lines_are code number seen entry entries bundle =
     let name = function_name code.content seen.spot.func in
     let shows = flat_map (λ (each : Ty × Operand). codes " " ++ values seen.registers each) (entry ∷ entries) in
     rw bundle
-    (append-nil (codes "! " ++ decimal number ++ codes " @" ++ name ++ shows ++ codes "\n")
-    ∙ nested (codes "! ") (decimal number) (codes " @") name shows (codes "\n")
-    ∙ ap (λ (texts : List ℕ). codes "! " ++ (decimal number ++ (codes " @" ++ (name ++ (texts ++ codes "\n"))))) (sym (led_is (codes " ") (values seen.registers) (entry ∷ entries))))
+    (ap (λ (line : List ℕ). line ∷ [])
+    (nested (codes "! ") (decimal number) (codes " @") name shows (codes "\n")
+    ∙ ap (λ (texts : List ℕ). codes "! " ++ (decimal number ++ (codes " @" ++ (name ++ (texts ++ codes "\n"))))) (sym (led_is (codes " ") (values seen.registers) (entry ∷ entries)))))
 
--- a line where the bundle has an entry
+-- where the bundle has an entry there is one line, and else none
+pub shown_lines : (code : FlatModule) (number : ℕ) (seen : Seen) (bundle : List (Ty × Operand))
+    → bundle ≡ bundle_of (exit_lines code seen.spot.func seen.spot.segment) → false ≡ (length bundle == 0)
+    → bundle_text number (function_name code.content seen.spot.func) seen.registers bundle ∷ [] ≡ frame_lines code number (exit_frame code seen)
+shown_lines code number seen [] is some = absurd (cc)
+shown_lines code number seen (entry ∷ entries) is some = sym (frame_lines_are code number seen entry entries (sym is))
+
+pub no_lines : (code : FlatModule) (number : ℕ) (seen : Seen) (bundle : List (Ty × Operand))
+    → bundle ≡ bundle_of (exit_lines code seen.spot.func seen.spot.segment) → true ≡ (length bundle == 0)
+    → [] ≡ frame_lines code number (exit_frame code seen)
+no_lines code number seen [] is none =
+    ap (bundle_line (function_name code.content) number (exit_frame code seen)) is
+no_lines code number seen (entry ∷ entries) is none = absurd (true≢false (none ∙ eqb-suc-zero (length entries)))
+
 pub shown_line : (code : FlatModule) (number : ℕ) (seen : Seen) (bundle : List (Ty × Operand))
     → bundle ≡ bundle_of (exit_lines code seen.spot.func seen.spot.segment) → false ≡ (length bundle == 0)
     → bundle_text number (function_name code.content seen.spot.func) seen.registers bundle ≡ frame_text code number (exit_frame code seen)
-shown_line code number seen [] is some = absurd (cc)
-shown_line code number seen (entry ∷ entries) is some = sym (frame_text_is code number seen entry entries (sym is))
+shown_line code number seen bundle is some =
+    sym (append-nil (bundle_text number (function_name code.content seen.spot.func) seen.registers bundle))
+    ∙ ap concat (shown_lines code number seen bundle is some)

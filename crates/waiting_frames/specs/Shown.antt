@@ -17,11 +17,18 @@ use Rattle.object_store.specs.Words.{datum}
 use Rattle.waiting_frames.specs.Frames.{Seen, exit_frame}
 
 -- what frames that wait show, the newest first, which has this number, and what one of them shows
+abbrev pub frames_lines : FlatModule → ℕ → List Seen → List (List ℕ)
+frames_lines code number seens = bundle_lines (function_name code.content) number (map (exit_frame code) seens)
+
+abbrev pub frame_lines : FlatModule → ℕ → Frame → List (List ℕ)
+frame_lines code number frame = bundle_line (function_name code.content) number frame (bundle_of frame.rest)
+
+-- their texts
 abbrev pub frames_text : FlatModule → ℕ → List Seen → List ℕ
-frames_text code number seens = concat (bundle_lines (function_name code.content) number (map (exit_frame code) seens))
+frames_text code number seens = concat (frames_lines code number seens)
 
 abbrev pub frame_text : FlatModule → ℕ → Frame → List ℕ
-frame_text code number frame = concat (bundle_line (function_name code.content) number frame (bundle_of frame.rest))
+frame_text code number frame = concat (frame_lines code number frame)
 
 -- the line of a frame of a function with this name, whose call has this bundle, piece by piece
 abbrev pub bundle_text : ℕ → List ℕ → List Word → List (Ty × Operand) → List ℕ

@@ -2,9 +2,11 @@
 
 ghost use Rattle.std.specs.Prelude.{◌≡◌, ◌≤◌, reverse, OnOk, OnErr};
 ghost use Rattle.tool_io.specs.Counts.{Rose};
+ghost use Rattle.std.specs.List.{All};
 ghost use Rattle.tool_io.specs.Sink.{append_known, AppendsFront};
+ghost use Rattle.piece_writer.specs.LinePuts.{IsShort, PutsFirst, PutsLines, told_by};
 ghost use Rattle.waiting_frames.specs.Frames.{frames_below, exit_frame};
-ghost use Rattle.waiting_frames.specs.Shown.{frame_text, frames_text, bundle_text};
+ghost use Rattle.waiting_frames.specs.Shown.{frame_lines, frame_text, frames_lines, frames_text, bundle_text};
 
 use crate::bundles::{bundle_at, name_of};
 use crate::frames::{Saved, Spot};
@@ -19,7 +21,8 @@ use tool_io::{Failed, Sink};
 /// function and the values of the bundle, each by its type. They stand oldest first, and these are
 /// their registers. It takes no memory.
 ///
-/// After `Failed`, which comes only where the sink's count of faults rose, a front of the lines was added.
+/// After `Failed`, which comes only where the sink's count of faults rose, a front of the lines was added. Where none has more than
+/// 8,192 bytes, each is put by one call.
 pub fn show_frames<O: Sink>(
     code: &Code,
     saved: &[Saved],
@@ -28,6 +31,8 @@ pub fn show_frames<O: Sink>(
 ) -> Result<(), Failed>
     ensures ok { OnOk result (O.written out.new ≡ append_known (O.written out.old) (frames_text code.now 1 (frames_below (reverse saved.now) registers.now))) }
     ensures err { OnErr result (AppendsFront (O.written out.old) (O.written out.new) (frames_text code.now 1 (frames_below (reverse saved.now) registers.now))) }
+    ensures by_one_put { All IsShort (frames_lines code.now 1 (frames_below (reverse saved.now) registers.now)) → OnOk result (PutsLines (told_by O.written O.puts out.old) (told_by O.written O.puts out.new) (frames_lines code.now 1 (frames_below (reverse saved.now) registers.now))) }
+    ensures cut { All IsShort (frames_lines code.now 1 (frames_below (reverse saved.now) registers.now)) → OnErr result (PutsFirst (told_by O.written O.puts out.old) (told_by O.written O.puts out.new) (frames_lines code.now 1 (frames_below (reverse saved.now) registers.now))) }
     ensures failed { OnErr result (Rose (O.faults out.old) (O.faults out.new)) }
     ensures count { O.faults out.old ≤ O.faults out.new }
 {
@@ -52,6 +57,8 @@ fn show_frame<O: Sink>(
 ) -> Result<(), Failed>
     ensures ok { OnOk result (O.written out.new ≡ append_known (O.written out.old) (frame_text code.now number (exit_frame code.now (record { spot = spot; registers = registers.now })))) }
     ensures err { OnErr result (AppendsFront (O.written out.old) (O.written out.new) (frame_text code.now number (exit_frame code.now (record { spot = spot; registers = registers.now })))) }
+    ensures by_one_put { All IsShort (frame_lines code.now number (exit_frame code.now (record { spot = spot; registers = registers.now }))) → OnOk result (PutsLines (told_by O.written O.puts out.old) (told_by O.written O.puts out.new) (frame_lines code.now number (exit_frame code.now (record { spot = spot; registers = registers.now })))) }
+    ensures cut { All IsShort (frame_lines code.now number (exit_frame code.now (record { spot = spot; registers = registers.now }))) → OnErr result (PutsFirst (told_by O.written O.puts out.old) (told_by O.written O.puts out.new) (frame_lines code.now number (exit_frame code.now (record { spot = spot; registers = registers.now })))) }
     ensures failed { OnErr result (Rose (O.faults out.old) (O.faults out.new)) }
     ensures count { O.faults out.old ≤ O.faults out.new }
 {

@@ -1,5 +1,5 @@
 -- What a frame that waits shows at a trap, through the map.
-use Rattle.std.proofs.Common.{ℕ, ◌-◌, ◌^◌, List, [], ◌∷◌, ◌++◌, refl, codes, pos, neg_ℤ}
+use Rattle.std.proofs.Common.{◌≡◌, ℕ, ◌-◌, ◌^◌, List, [], ◌∷◌, ◌++◌, refl, codes, pos, neg_ℤ, Some, None}
 use Rattle.std.specs.Fmt.{signed_decimal}
 use Rattle.std.specs.List.{flat_map}
 use Rattle.std.specs.Prelude.{ℤ, decimal}
@@ -19,10 +19,12 @@ use Rattle.map_bytes.specs.Maps.{MapRecord, StackMap}
 use Rattle.moving_heap.specs.declared.stands.Verdict.TheVariants.{Empty}
 use Rattle.object_meaning.specs.Accesses.{field_at}
 use Rattle.object_meaning.specs.Effects.{newline}
+use Rattle.object_meaning.specs.Numbers.{sign_extended}
 use Rattle.object_meaning.specs.Steps.{step}
 use Rattle.object_meaning.specs.Traces.{at_new, at_poll}
 use Rattle.machine_meaning.specs.Code.{machinery_of}
 use Rattle.machine_meaning.specs.MachineSteps.{machine_step}
+use Rattle.machine_meaning.specs.TrapLines.{shown_at, shown_over, shown_word, values_of}
 use Rattle.machine_meaning.specs.MachineRuns.{MachineOutcome, MachineGives, machine_proceeds}
 use Rattle.machine_meaning.proofs.OutcomeLaws.{gives_within}
 use Rattle.machine_meaning.proofs.Samples.{rewritten, function, value, literal, gives, next_field, return, return_void, statepoint, poll, new_cell, result, relocate, constant, slot, kept, frames}
@@ -104,3 +106,26 @@ elsewhere : MachineGives bundles (record bundle_map { records = kept 4 [] ∷ ke
 unfolding machine_proceeds machine_step step laid size_of field_at entries_of
 elsewhere = gives_within (machinery_of bundles (record bundle_map { records = kept 4 [] ∷ kept 4 [] ∷ kept 12 [] ∷ record shown_record { offset = 28 } ∷ kept 4 [] ∷ kept 8 [] ∷ [] }) [] 1000)
     (pos 9 ∷ []) 30 unshown refl
+
+-- a listed constant's place has no sign: it lies behind the list here
+abbrev beyond : Place
+beyond = record { kind = 5; size = 8; register = 0; offset = neg_ℤ (pos 1) }
+
+unsigned : shown_at (7 ∷ 9 ∷ []) [] [] [] beyond ≡ signed_decimal (pos 0)
+unsigned = refl
+
+-- -8 from an object at 65536; 5 without an object; -1 of 8 bits
+before_front : shown_over 65536 65528 (Some (record { number = 1; size = 16; address = 65536 })) ≡ decimal 1 ++ codes "+" ++ decimal 18446744073709551608
+before_front = refl
+
+no_object : shown_over 0 5 None ≡ signed_decimal (pos 5)
+no_object = refl
+
+minus_one : shown_word (sign_extended 8 64 255) ≡ signed_decimal (neg_ℤ (pos 1))
+minus_one = refl
+
+-- two "deopt" locations and no pair: both slots are plain words
+bare_pairs : values_of (machinery_of bundles bundle_map [] 1000) (record { number = 1; size = 16; address = 65536 } ∷ []) (65536 ∷ 65544 ∷ [])
+    (record { frame_bytes = 16; places = constant ∷ constant ∷ fixed (pos 2) ∷ slot 0 ∷ slot 8 ∷ [] })
+    ≡ decimal 65536 ∷ decimal 65544 ∷ []
+bare_pairs = refl

@@ -1,8 +1,9 @@
 -- Runs over a module's own stack map, as the meaning on objects has them.
 use Rattle.std.proofs.Common.{◌≡◌, ℕ, ℤ, zero, suc, Bool, true, false, List, [], ◌∷◌, ◌++◌, map, length, Some, refl, sym, ap, subst, ◌∙◌, arith}
 use Rattle.std.specs.Prelude.{slice_get}
-use Rattle.std.specs.List.{concat}
+use Rattle.std.specs.List.{All, concat}
 use Rattle.sp_ids.specs.declared.ends.End.{End}
+use Rattle.ir_ast.specs.Bundles.{HasNoBundle}
 use Rattle.ir_ast.specs.Layouts.{ObjectLayout}
 use Rattle.ir_ast.specs.Modules.{ModuleContent}
 use Rattle.ir_ast.specs.Objects.{Object, footprint}
@@ -54,25 +55,25 @@ alike content input plan bound places trace meant machine text sound writes seen
   way = (keeps_way content sound input plan bound machine writes.gives).1;
 }
 
-nothing_shown : (content : ModuleContent) (input : List ℤ) (plan : List PlanLine) (bound : ℕ) (places trace : Bool) (machine : MachineOutcome) (text : List ℕ)
+nothing_shown : (content : ModuleContent) → All HasNoBundle content.funcs → (input : List ℤ) (plan : List PlanLine) (bound : ℕ) (places trace : Bool) (machine : MachineOutcome) (text : List ℕ)
     → (writes : RunWritesQuiet content (map_of content) input plan bound places trace machine text)
     → closing_of (machinery_of content (map_of content) plan bound) machine.end writes.gives.last.state ≡ []
-nothing_shown content input plan bound places trace machine text writes =
-    closing_nothing (machinery_of content (map_of content) plan bound) machine.end writes.gives.last.state (names_nothing content)
+nothing_shown content bare input plan bound places trace machine text writes =
+    closing_nothing (machinery_of content (map_of content) plan bound) machine.end writes.gives.last.state (names_nothing content bare)
 
 pub quiet_is_whole : QuietIsWhole
-quiet_is_whole content input plan bound places trace machine text writes = record {
+quiet_is_whole content bare input plan bound places trace machine text writes = record {
   gives = writes.gives;
   is =
       writes.is
       ∙ ap (λ (shown : List (List ℕ)). concat (run_lines content (machinery_of content (map_of content) plan bound) places trace input writes.gives.run.within shown machine.end writes.gives.last.state))
-      (sym (nothing_shown content input plan bound places trace machine text writes));
+      (sym (nothing_shown content bare input plan bound places trace machine text writes));
 }
 
 pub verified_are_shown : VerifiedAreShown
-verified_are_shown content sound input plan bound places trace meant machine text writes seen =
+verified_are_shown content sound bare input plan bound places trace meant machine text writes seen =
     shown_text content (map_of content) input plan bound places trace machine text writes meant (alike content input plan bound places trace meant machine text sound writes seen)
-    (nothing_shown content input plan bound places trace machine text writes)
+    (nothing_shown content bare input plan bound places trace machine text writes)
 
 -- ---- sources
 

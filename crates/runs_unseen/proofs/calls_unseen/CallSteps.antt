@@ -37,6 +37,7 @@ use Rattle.moves_unseen.specs.States.{Extra, IsRelated, machine_of}
 use Rattle.moves_unseen.specs.Steps.{StepFollows, both_end, both_go}
 use Rattle.moves_unseen.specs.Waits.{CallsFollow, IsDefined, IsSound, IsStatepointOf, defined, waits}
 use Rattle.moves_unseen.proofs.EntryLaws.{entered_words_are, frame_entered}
+use Rattle.moves_unseen.proofs.LastLaws.{last_waiting}
 use Rattle.runs_unseen.specs.WaitingStates.{IsWaitingState, StatesWait, at_statepoint}
 use Rattle.runs_unseen.proofs.calls_unseen.Arguments.{arguments_are, words_of_arguments}
 use Rattle.runs_unseen.proofs.calls_unseen.StatepointLines.{IsDefinedAs, calls_by, defined_as, fits, own_passed}
@@ -158,7 +159,7 @@ module _ (states_wait : StatesWait) (content : ModuleContent) (sound : IsSound c
   by_depth true =
       both_go entered_state (pushed machinery called.0 address (entered_machine (entered machinery.setting called.0 (map number words)) next_machine.stack))
       (record { extra = entered_extra; is = machine_is; related = related_there })
-  by_depth false = both_end (Trapped Depth) next next_machine (record { extra = waiting; is = refl; objects = related.objects })
+  by_depth false = both_end (Trapped Depth) next next_machine (last_waiting content machinery next waiting related.objects waits_so.waiting.running related.below)
 
   enters : StepFollows content machinery (entering setting called.0 given next)
       (then_on (pushed machinery called.0 address) (lifted next_machine (entering machinery.setting called.0 (map number words) next_machine.state)))
@@ -173,7 +174,7 @@ module _ (states_wait : StatesWait) (content : ModuleContent) (sound : IsSound c
   by_bound : (b : Bool) → StepFollows content machinery (if b then entering setting called.0 given next else ends OutOfSteps state)
       (then_on (pushed machinery called.0 address) (lifted waiting_machine (if b then entering machinery.setting called.0 (map number words) next_machine.state else ends OutOfSteps waiting_machine.state)))
   by_bound true = enters
-  by_bound false = both_end OutOfSteps state waiting_machine (record { extra = waiting; is = refl; objects = related.objects })
+  by_bound false = both_end OutOfSteps state waiting_machine (last_waiting content machinery state waiting related.objects waits_so.waiting.running related.below)
 
   -- related before, both enter the function, and related after
   pub call_follows : StepFollows content machinery (step setting state) (machine_step machinery machine)

@@ -51,6 +51,7 @@ use Rattle.moves_unseen.specs.Waits.{IsSound, IsStatepointOf, TasksFollow, waits
 use Rattle.moves_unseen.specs.Waits.{StartsTask as StartsOne, starts}
 use Rattle.moves_unseen.proofs.EntryLaws.{entered_words_are, frame_entered}
 use Rattle.moves_unseen.proofs.ValueLaws.{base_of_pair, value_at}
+use Rattle.moves_unseen.proofs.LastLaws.{last_waiting}
 use Rattle.runs_unseen.specs.WaitingStates.{IsWaitingState, StatesWait, at_statepoint, frames_of_all, words_of_all}
 use Rattle.runs_unseen.proofs.calls_unseen.Arguments.{first_taken, first_worded, second_taken, second_word}
 use Rattle.runs_unseen.proofs.calls_unseen.StatepointLines.{IsDefinedAs, calls_by, defined_as, fits, own_passed}
@@ -232,7 +233,7 @@ module _ (states_wait : StatesWait) (content : ModuleContent) (sound : IsSound c
   by_room true =
       both_go started_state (begun (entered machinery.setting called.0 (number word ∷ [])) (old_tasks ++ [] ∷ []) (old_stacks ++ [] ∷ []))
       (record { extra = started_extra; is = machine_is; related = related_there })
-  by_room false = both_end (Trapped Tasks) state waiting_machine (record { extra = waiting; is = refl; objects = related.objects })
+  by_room false = both_end (Trapped Tasks) state waiting_machine (last_waiting content machinery state waiting related.objects waits_so.waiting.running related.below)
 
   starts_so : StepFollows content machinery (started setting state called.0 argument) (started_machine machinery waiting_machine called.0 (number word))
   starts_so =

@@ -58,6 +58,7 @@ use Rattle.moves_unseen.proofs.AllocLaws.{made_is_held}
 use Rattle.moves_unseen.proofs.LineTypes.{lines_are_typed}
 use Rattle.moves_unseen.proofs.StandLaws.{line_here}
 use Rattle.moves_unseen.proofs.ValueLaws.{same_number, value_at, word_at}
+use Rattle.moves_unseen.proofs.LastLaws.{last_waiting}
 use Rattle.runs_unseen.proofs.events_unseen.EventLaws.{AllWait}
 use Rattle.runs_unseen.proofs.events_unseen.ObjectLaws.{all_more, base_answers, new_base, sizes_same, waits_more}
 use Rattle.runs_unseen.proofs.events_unseen.PollSteps.{event_is, here, made, statepoint_at, there}
@@ -208,7 +209,7 @@ module _ (content : ModuleContent) (sound : IsSound content) (plan : List PlanLi
       (by (int_lt count (pos 0)) (ltb 67108864 (bytes (unsigned_abs count))) refl)
     where
       ended : (kind : Ending) → StepFollows content machinery (effects.ends (Trap kind) (with_event state)) (effects.ends (Trap kind) machine)
-      ended kind = both_end (Trap kind) (with_event state) machine (record { extra = extra; is = refl; objects = all.objects })
+      ended kind = both_end (Trap kind) (with_event state) machine (last_waiting content machinery (with_event state) extra all.objects all.running all.below)
 
       by : (b c : Bool) → ltb 67108864 (bytes (unsigned_abs count)) ≡ c → StepFollows content machinery
           (if b then effects.ends (Trap Count) (with_event state)

@@ -1,16 +1,19 @@
--- The words that a statepoint keeps are those of its live entries, and only slots of the running frame change.
+-- The words that a statepoint keeps are those of its live entries and of the integers that its bundle names, and only slots of the
+-- running frame change.
 use Rattle.std.proofs.Common.{◌≡◌, ℕ, zero, suc, ◌≤◌, List, [], ◌∷◌, ◌++◌, length, drop, map, refl, sym, ap, ◌∙◌, arith, Some}
 use Rattle.std.specs.Prelude.{slice_get}
 use Rattle.std.specs.List.{filter}
-use Rattle.std.proofs.lemmas.List.{append-nil, append_assoc, drop-append-le, length-append, length-drop, length-map}
+use Rattle.std.proofs.lemmas.List.{append_assoc, drop-append-le, length-append, length-drop}
 use Rattle.ir_ast.specs.declared.ops.Callee.{Callee}
 use Rattle.ir_ast.specs.declared.ops.Op.TheVariants.{Statepoint}
 use Rattle.ir_ast.specs.declared.ops.Operand.{Operand}
+use Rattle.ir_ast.specs.declared.ops.Operand.TheVariants as operands
 use Rattle.ir_ast.specs.declared.types.Ty.{Ty}
 use Rattle.ir_ast.specs.Modules.{ModuleContent}
 use Rattle.ir_ast.specs.Objects.{number}
 use Rattle.frame_forms.specs.FrameSizes.{is_named_integer}
 use Rattle.object_meaning.specs.Lines.{Line}
+use Rattle.object_meaning.specs.Numbers.{sign_extended, width_of}
 use Rattle.object_meaning.specs.Registers.{value, number_in}
 use Rattle.object_meaning.specs.States.{State}
 use Rattle.pair_facts.specs.Lines.{lines_at}
@@ -19,10 +22,9 @@ use Rattle.machine_meaning.specs.Relations.{word_in}
 use Rattle.machine_meaning.specs.Words.{worded, worded_operand}
 use Rattle.moves_unseen.specs.Frames.{IsRunning}
 use Rattle.moves_unseen.specs.States.{Extra, machine_of, return_below, stack_of, worded_state}
-use Rattle.moves_unseen.specs.Waits.{IsSound, spilled_words}
+use Rattle.moves_unseen.specs.Waits.{IsSound, kept_word, spilled_words, words_kept}
 use Rattle.moves_unseen.proofs.StandLaws.{line_here}
-use Rattle.runs_unseen.proofs.frames_spilled.RoomLaws.{entries_fit}
-use Rattle.runs_unseen.proofs.frames_spilled.TextLaws.{no_bundle}
+use Rattle.runs_unseen.proofs.frames_spilled.RoomLaws.{words_fit}
 
 entry_words : (words : List ℕ) (count : ℕ) (operands : List Operand)
     → map (λ (operand : Operand). number_in (value (map number words) operand)) (drop count (map worded_operand operands)) ≡ map (word_in words) (drop count operands)
@@ -30,6 +32,19 @@ entry_words words zero [] = refl
 entry_words words zero (operand ∷ operands) = ap (λ (rest : List ℕ). word_in words operand ∷ rest) (entry_words words zero operands)
 entry_words words (suc count) [] = refl
 entry_words words (suc count) (operand ∷ operands) = entry_words words count operands
+
+word_same : (words : List ℕ) (operand : Operand) → number_in (value (map number words) operand) ≡ word_in words operand
+word_same words (operands.Value at) = refl
+word_same words (operands.Int literal) = refl
+word_same words operands.Null = refl
+word_same words (operands.Fun func) = refl
+
+integer_words : (words : List ℕ) (entries : List (Ty × Operand))
+    → map (λ (entry : Ty × Operand). sign_extended (width_of entry.0) 64 (number_in (value (map number words) entry.1))) entries ≡ map (kept_word words) entries
+integer_words words [] = refl
+integer_words words (entry ∷ entries) =
+    ap (λ (n : ℕ). sign_extended (width_of entry.0) 64 n ∷ map (λ (each : Ty × Operand). sign_extended (width_of each.0) 64 (number_in (value (map number words) each.1))) entries) (word_same words entry.1)
+    ∙ ap (λ (rest : List ℕ). kept_word words entry ∷ rest) (integer_words words entries)
 
 over_front : (words slots tail : List ℕ) → length words ≤ length slots → over words (slots ++ tail) ≡ over words slots ++ tail
 over_front words slots tail few =
@@ -47,34 +62,28 @@ module _ (content : ModuleContent) (sound : IsSound content) (machinery : Machin
   abbrev machine : Machine
   machine = machine_of machinery state extra
 
-  abbrev entries : List Operand
-  entries = drop (length types) line.inst.operands
+  abbrev words : List ℕ
+  words = extra.running.words
 
   here : slice_get (lines_at running.func state.running.block) running.place ≡ Some line
   here = line_here content state.running running.func running.place running.pairs running.at line rest is
 
-  bare : line.inst.bundle ≡ []
-  bare = no_bundle content sound.bundles state.running.func running.func running.at.defined state.running.block running.place line here
-
-  kept_are : kept_words machine.state (worded line).inst (length types) ≡ map (word_in extra.running.words) entries
+  kept_are : kept_words machine.state (worded line).inst (length types) ≡ words_kept words line.inst (length types)
   kept_are =
-      ap (λ (bundle : List (Ty × Operand)).
-      map (λ (operand : Operand). number_in (value (map number extra.running.words) operand)) (drop (length types) (map worded_operand line.inst.operands))
-      ++ map (bundle_word machine.state) (filter (λ entry. is_named_integer entry.0 entry.1) bundle)) bare
-      ∙ (append-nil (map (λ (operand : Operand). number_in (value (map number extra.running.words) operand)) (drop (length types) (map worded_operand line.inst.operands)))
-      ∙ entry_words extra.running.words (length types) line.inst.operands)
+      let integers = filter (λ (entry : Ty × Operand). is_named_integer entry.0 entry.1) line.inst.bundle in
+      ap (λ (front : List ℕ). front ++ map (bundle_word machine.state) integers) (entry_words words (length types) line.inst.operands)
+      ∙ ap (λ (back : List ℕ). map (word_in words) (drop (length types) line.inst.operands) ++ back) (integer_words words integers)
 
   abbrev tail : List ℕ
   tail = return_below machinery (worded_state state extra).below ∷ stack_of machinery (worded_state state extra).below extra.below
 
-  fits : length (map (word_in extra.running.words) entries) ≤ length extra.running.slots
+  fits : length (words_kept words line.inst (length types)) ≤ length extra.running.slots
   fits =
-      let count = length-map entries (word_in extra.running.words) in
-      let few = entries_fit running.func state.running.block running.place line here id callee types op_is in
+      let few = words_fit running.func state.running.block running.place line here id callee types op_is words in
       let room = running.slots in
-      omega (arith, count, few, room)
+      omega (arith, few, room)
 
   pub spills : spilled machine (worded line).inst (length types) ≡ machine_of machinery state (record extra { running = spilled_words extra.running line (length types) })
   spills =
       ap (λ (stack : List ℕ). record (machine_of machinery state extra) { stack = stack })
-      (ap (λ (words : List ℕ). over words (extra.running.slots ++ tail)) kept_are ∙ over_front (map (word_in extra.running.words) entries) extra.running.slots tail fits)
+      (ap (λ (kept : List ℕ). over kept (extra.running.slots ++ tail)) kept_are ∙ over_front (words_kept words line.inst (length types)) extra.running.slots tail fits)

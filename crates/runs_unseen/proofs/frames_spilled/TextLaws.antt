@@ -1,26 +1,17 @@
 -- A line of a block among all instructions of its function.
 use Rattle.std.proofs.Common.{◌≡◌, ℕ, zero, suc, ◌+◌, List, [], ◌∷◌, ◌++◌, length, take, sym, ap, ◌∙◌, arith, Some}
 use Rattle.std.specs.Prelude.{slice_get, slice_index}
-use Rattle.std.specs.List.{All, filter}
 use Rattle.std.specs.Option.{option_map_or}
 use Rattle.std.proofs.lemmas.List.{length-append}
 use Rattle.std.proofs.lemmas.Option.{none-some, same_Some}
-use Rattle.list_laws.proofs.Contents.{all_at}
 use Rattle.list_laws.proofs.Places.{get_front, get_past}
-use Rattle.ir_ast.specs.declared.ops.Operand.{Operand}
-use Rattle.ir_ast.specs.declared.types.Ty.{Ty}
 use Rattle.ir_ast.specs.Blocks.{BasicBlock}
-use Rattle.ir_ast.specs.Bundles.{HasNoBundle}
 use Rattle.ir_ast.specs.Funcs.{Function, instructions_of}
 use Rattle.ir_ast.specs.Insts.{Instruction}
-use Rattle.ir_ast.specs.Modules.{ModuleContent}
-use Rattle.ir_ast.specs.Objects.{Datum}
-use Rattle.frame_forms.specs.FrameSizes.{is_named_integer}
 use Rattle.ir_cfg.specs.DefiniteUses.{text_place}
 use Rattle.object_meaning.specs.Lines.{Line, following, insts_in, numbered, registers_of}
 use Rattle.object_meaning.specs.TargetRuns.{plain_lines}
 use Rattle.pair_facts.specs.Lines.{lines_at}
-use Rattle.moves_unseen.specs.Frames.{AreKept}
 use Rattle.object_meaning.proofs.LineLaws.{plain_back}
 
 in_text : (blocks : List BasicBlock) (number place : ℕ) (inst : Instruction)
@@ -42,15 +33,3 @@ pub line_in_text : (func : Function) (block place : ℕ) (line : Line) → slice
     → slice_get (instructions_of func.blocks) (text_place func block place) ≡ Some line.inst
 line_in_text func block place line is =
     in_text func.blocks block place line.inst (plain_back (slice_index (registers_of func) block) (insts_in func block) place line is)
-
--- and it has no bundle, where no function has one
-pub no_bundle : (content : ModuleContent) → All HasNoBundle content.funcs → (number : ℕ) (func : Function) → slice_get content.funcs number ≡ Some func
-    → (block place : ℕ) (line : Line) → slice_get (lines_at func block) place ≡ Some line → line.inst.bundle ≡ []
-no_bundle content bare number func defined block place line is =
-    all_at (λ (inst : Instruction). inst.bundle ≡ []) (instructions_of func.blocks) (text_place func block place) line.inst
-    (all_at HasNoBundle content.funcs number func bare defined) (line_in_text func block place line is)
-
--- without a bundle there is nothing to keep
-pub nothing_kept : (registers : List Datum) (call : Instruction) (slots : List ℕ) → call.bundle ≡ [] → AreKept registers call slots
-nothing_kept registers call slots none place entry is =
-    absurd (none-some entry (sym (ap (λ (bundle : List (Ty × Operand)). slice_get (filter (λ each. is_named_integer each.0 each.1) bundle) place) none) ∙ is))

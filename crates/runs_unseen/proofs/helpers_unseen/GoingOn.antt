@@ -17,7 +17,9 @@ use Rattle.machine_meaning.specs.Machines.{Machinery, gone_on, spilled}
 use Rattle.machine_meaning.specs.Words.{worded}
 use Rattle.moves_unseen.specs.Frames.{FrameWords, IsWaiting}
 use Rattle.moves_unseen.specs.States.{Extra, Follows, IsRelated, machine_of}
+use Rattle.moves_unseen.specs.Steps.{IsLast}
 use Rattle.moves_unseen.specs.Waits.{IsAnswer, IsSound, spilled_words}
+use Rattle.moves_unseen.proofs.LastLaws.{last_waiting}
 use Rattle.moves_unseen.proofs.StandLaws.{line_here}
 use Rattle.runs_unseen.proofs.frames_resumed.StateLaws.{resumed_follows}
 use Rattle.runs_unseen.proofs.frames_spilled.ResultLaws.{result_type}
@@ -41,6 +43,9 @@ module _ (content : ModuleContent) (sound : IsSound content) (machinery : Machin
 
   pub waiting : IsWaiting content extra.heap.stands state.running held
   waiting = waits content sound state.objects extra.heap.stands state.running extra.running related.running line rest is id callee types op_is
+
+  pub last_held : IsLast content machinery state (machine_of machinery state held_extra)
+  last_held = last_waiting content machinery state held_extra related.objects waiting related.below
 
   -- ---- answers
 

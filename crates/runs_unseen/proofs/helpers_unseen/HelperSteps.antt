@@ -56,7 +56,7 @@ use Rattle.moves_unseen.proofs.StandLaws.{line_here}
 use Rattle.moves_unseen.proofs.ValueLaws.{same_number, value_at, word_at}
 use Rattle.moves_unseen.proofs.VerifiedLaws.{pair_stands}
 use Rattle.runs_unseen.proofs.frames_resumed.StateLaws.{nothing_answers}
-use Rattle.runs_unseen.proofs.helpers_unseen.GoingOn.{goes_on_behind, group, grouped_is, held_extra, number_answered, spilled_is}
+use Rattle.runs_unseen.proofs.helpers_unseen.GoingOn.{goes_on_behind, group, grouped_is, held_extra, last_held, number_answered, spilled_is}
 
 -- an argument stands before the live entries
 argument : (registers : List Datum) (operands : List Operand) (count place : ℕ) → place < count → operand registers (take count operands) place ≡ operand registers operands place
@@ -187,7 +187,7 @@ module _ (content : ModuleContent) (sound : IsSound content) (machinery : Machin
         (nothing_answers extra.heap.stands (group content sound machinery state extra related line rest is id Check types op_is))))
     check_by (Err trap) found =
         subst (StepFollows content machinery (ends (Trapped trap) state)) (sym (denied_so check_machine trap (access_trap content.layouts state.objects asked_cell to trap found)))
-        (both_end (Trapped trap) state check_machine (record { extra = check_extra; is = refl; objects = related.objects }))
+        (both_end (Trapped trap) state check_machine (last_held content sound machinery state extra related line rest is id Check types op_is))
 
     pub check_follows : StepFollows content machinery (step setting state) (machine_step machinery machine)
     check_follows =
@@ -331,7 +331,7 @@ module _ (content : ModuleContent) (sound : IsSound content) (machinery : Machin
         (spilled_is content sound machinery state extra related line rest is id Read types op_is))
 
     read_by : (numbers : List ℤ) → StepFollows content machinery (taking state (grouped state entries rest) numbers) (lifted read_machine (taking read_machine.state (λ answer. (gone_on answer read_machine).state) numbers))
-    read_by [] = both_end (Trapped Input) state read_machine (record { extra = read_extra; is = refl; objects = related.objects })
+    read_by [] = both_end (Trapped Input) state read_machine (last_held content sound machinery state extra related line rest is id Read types op_is)
     read_by (first ∷ more) =
         let made = cast_unsigned w64 first in
         let follows = goes_on_behind content sound machinery state extra related line rest is id Read types op_is (number (cast_unsigned w64 first)) (cast_unsigned w64 first)

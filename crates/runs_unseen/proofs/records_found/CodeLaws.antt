@@ -1,5 +1,5 @@
 -- The group of a statepoint in its block and in its function: a block ends at a terminator, so no group crosses its end.
-use Rattle.std.proofs.Common.{◌≡◌, ◌∙◌, ℕ, suc, ◌+◌, ◌<◌, ◌≤◌, inl, inr, true, List, [], ◌∷◌, ◌++◌, length, drop, take, refl, ap, sym, arith, Some, slice_get}
+use Rattle.std.proofs.Common.{◌≡◌, ◌∙◌, ℕ, suc, ◌+◌, ◌<◌, ◌≤◌, inl, inr, Bool, true, false, cond, List, [], ◌∷◌, ◌++◌, length, drop, take, refl, ap, sym, subst, arith, length-append, length-drop, Some, slice_get}
 use Rattle.std.proofs.lemmas.Grind.{flat_map-append}
 use Rattle.std.proofs.lemmas.List.{drop-append-le, take-append-le}
 use Rattle.std.proofs.lemmas.List.Sums.{prefix_len-le-length}
@@ -7,7 +7,7 @@ use Rattle.std.proofs.lemmas.Option.{slice_get_within}
 use Rattle.std.proofs.Math.Seq.{drop-append-add}
 use Rattle.list_laws.proofs.Places.{get_front, get_past, get_pushed, split_at}
 use Rattle.ir_ast.specs.declared.ops.Op.{Op}
-use Rattle.ir_ast.specs.declared.ops.Op.TheVariants.{Statepoint}
+use Rattle.ir_ast.specs.declared.ops.Op.TheVariants.{GcRelocate, GcResult, Statepoint}
 use Rattle.ir_ast.specs.Blocks.{BasicBlock, EndsAtTerminator}
 use Rattle.ir_ast.specs.Faults.GroupShape.{is_statepoint}
 use Rattle.ir_ast.specs.Funcs.{instructions_of}
@@ -25,6 +25,19 @@ ends_no_block _ is ends = cc
 pub size_is : (op : Op) (rest : List Instruction) → is_statepoint op ≡ true → group_size op rest ≡ run_of rest
 size_is (Statepoint id callee types) rest is = refl
 size_is _ rest is = cc
+
+ends_no_group : (op : Op) → is_terminator op ≡ true → is_member op ≡ false
+ends_no_group GcResult ends = cc
+ends_no_group GcRelocate ends = cc
+ends_no_group _ ends = refl
+
+run_short : (before : List Instruction) (last : Instruction) → is_member last.op ≡ false → run_of (before ++ last ∷ []) < length (before ++ last ∷ [])
+run_short [] last other = rw other (omega arith)
+run_short (inst ∷ before) last other = by (is_member inst.op) (run_short before last other)
+  where
+    by : (b : Bool) → run_of (before ++ last ∷ []) < length (before ++ last ∷ []) → cond b (1 + run_of (before ++ last ∷ [])) 0 < suc (length (before ++ last ∷ []))
+    by true more = omega arith
+    by false more = omega arith
 
 run_stops : (op : Op) → is_statepoint op ≡ true → (before : List Instruction) (last : Instruction) (after : List Instruction) → is_terminator last.op ≡ true
     → run_of ((before ++ last ∷ []) ++ after) ≡ run_of (before ++ last ∷ [])
@@ -66,6 +79,15 @@ module _ (blocks : List BasicBlock) (block : ℕ) (own : BasicBlock) (found : sl
 
     own_rest : drop (suc place) own.insts ≡ drop (suc place) ended.before ++ ended.last ∷ []
     own_rest = ap (drop (suc place)) ended.whole ∙ drop-append-le (suc place) ended.before (ended.last ∷ []) (omega (arith, inside))
+
+    -- an instruction of the function stands behind the group
+    pub behind_inside : length (instructions_of (take block blocks)) + (suc place + run_of (drop (suc place) own.insts)) < length (instructions_of blocks)
+    behind_inside =
+        let short : run_of (drop (suc place) own.insts) < length (drop (suc place) own.insts) =
+        subst (λ (rest : List Instruction). run_of rest < length rest) (sym own_rest) (run_short (drop (suc place) ended.before) ended.last (ends_no_group ended.last.op ended.ends)) in
+        let rest = length-drop (suc place) own.insts in
+        let all = ap length whole ∙ (length-append front (own.insts ++ later) ∙ ap (λ (n : ℕ). length front + n) (length-append own.insts later)) in
+        omega (arith, short, rest, all)
 
     -- the group in the function is that in the block
     pub text_group : run_of (drop (suc (length (instructions_of (take block blocks)) + place)) (instructions_of blocks)) ≡ run_of (drop (suc place) own.insts)

@@ -1,6 +1,6 @@
 -- The record that the map of a module has of a statepoint, and the code address behind the group of a statepoint.
 use Rattle.std.proofs.Common.{◌≡◌, ◌∙◌, ℕ, suc, ◌+◌, ◌-◌, ◌*◌, ◌%◌, ◌^◌, ◌<◌, ◌≤◌, true, ◌==◌, List, length, take, drop, Option, Some, slice_get, ap, sym, subst, arith, length-drop, take-append-drop, find}
-use Rattle.std.specs.List.{AllByRecursion}
+use Rattle.std.specs.List.{AllByRecursion, list_all}
 use Rattle.std.specs.Option.{option_map, option_map_or}
 use Rattle.std.proofs.lemmas.List.Sums.{prefix_len-le-length}
 use Rattle.std.proofs.lemmas.Option.{slice_get_within}
@@ -13,26 +13,31 @@ use Rattle.ir_ast.specs.Insts.{Instruction}
 use Rattle.ir_ast.specs.Modules.{ModuleContent}
 use Rattle.ir_cfg.specs.TargetModules.{IsTargetModule}
 use Rattle.ir_cfg.specs.TypedModules.{IsTypedFunction}
+use Rattle.frame_forms.specs.CodeAddresses.{first_start}
 use Rattle.frame_forms.specs.FrameSizes.{frame_words}
 use Rattle.frame_forms.specs.ModuleLayouts.{FunctionLayout, laid_at}
-use Rattle.frame_walk.specs.Maps.{found_in, frame_entry}
-use Rattle.machine_meaning.specs.Code.{code_address}
+use Rattle.frame_walk.specs.Maps.{found_in, frame_entry, is_deopt}
+use Rattle.machine_meaning.specs.Code.{code_address, name_in}
+use Rattle.map_bytes.specs.declared.values.Place.{Place}
 use Rattle.map_bytes.specs.Entries.{Entry, entries, entry_of}
 use Rattle.object_meaning.specs.Frames.{is_member}
-use Rattle.stackmap_write.specs.ModuleMaps.{entry_of as function_entry, group_places, map_of, records_of}
+use Rattle.stackmap_write.specs.Constants.{constants_of}
+use Rattle.stackmap_write.specs.ModuleMaps.{deopt_places, entry_of as function_entry, group_places, map_of, records_of}
 use Rattle.stackmap_write.proofs.AddressLaws.{target_addresses_rise}
 use Rattle.stackmap_write.proofs.FitLaws.{IsTarget, targets_of}
 use Rattle.stackmap_write.proofs.PlaceFitLaws.{all_taken}
-use Rattle.runs_unseen.proofs.records_found.CodeLaws.{text_group, text_members, text_stands}
+use Rattle.frames_shown.proofs.NameLaws.{name_found}
+use Rattle.runs_unseen.proofs.records_found.CodeLaws.{behind_inside, text_group, text_members, text_stands}
 use Rattle.runs_unseen.proofs.records_found.EntryLaws.{HasRecord, Laid, laid_in, record_in}
 use Rattle.runs_unseen.proofs.records_found.LineLaws.{run_of}
 use Rattle.runs_unseen.proofs.records_found.ListLaws.{first_found}
-use Rattle.runs_unseen.proofs.records_found.SlotLaws.{IsInFrame, all_in_frame, entry_with}
+use Rattle.runs_unseen.proofs.records_found.SlotLaws.{IsInFrame, all_deopts_fit, all_in_frame, asked, entry_with}
 
 -- what the map has at the address behind a statepoint's group
-pub record HasEntry (content : ModuleContent) (func : Function) (address : ℕ) (group : List Instruction) : Type 0 where
-  pub found : found_in (map_of content) address ≡ Some (entry_with (frame_words func) group)
+pub record HasEntry (content : ModuleContent) (func : Function) (address : ℕ) (deopts : List Place) (group : List Instruction) : Type 0 where
+  pub found : found_in (map_of content) address ≡ Some (entry_with (frame_words func) deopts group)
   pub returns : address ≡ 0 → ⊥
+  pub deopts_fit : list_all (is_deopt (8 * frame_words func)) deopts ≡ true
   pub in_frame : AllByRecursion (IsInFrame (frame_words func)) group
 
 module _ (content : ModuleContent) (target : IsTargetModule content) (number : ℕ) (func : Function) (defined : slice_get content.funcs number ≡ Some func)
@@ -50,6 +55,9 @@ module _ (content : ModuleContent) (target : IsTargetModule content) (number : �
   abbrev run : ℕ
   run = run_of (drop (suc place) own.insts)
 
+  abbrev constants : List ℕ
+  constants = constants_of content
+
   abbrev group : List Instruction
   group = take (run_of (drop (suc place) own.insts)) (drop (suc place) own.insts)
 
@@ -60,14 +68,14 @@ module _ (content : ModuleContent) (target : IsTargetModule content) (number : �
   text_group_is : take (run_of (drop (suc at) text)) (drop (suc at) text) ≡ group
   text_group_is = text_members func.blocks block own found place inst stands ended is
 
-  one : HasRecord (records_of func) (4 * (0 + at + 1 + run_of (drop (suc at) text))) (take (run_of (drop (suc at) text)) (drop (suc at) text))
-  one = record_in 0 text at inst (text_stands func.blocks block own found place inst stands) is
+  one : HasRecord (records_of constants func) (4 * (0 + at + 1 + run_of (drop (suc at) text))) (deopt_places constants inst) (take (run_of (drop (suc at) text)) (drop (suc at) text))
+  one = record_in constants 0 text at inst (text_stands func.blocks block own found place inst stands) is
 
   few : length content.funcs ≤ 4096
   few = target.typed.limits.functions
 
-  laid : Laid 4096 content.funcs number func
-  laid = laid_in 4096 content.funcs (omega (arith, few)) (targets_of content target) number func defined
+  laid : Laid constants 4096 content.funcs number func
+  laid = laid_in constants 4096 content.funcs (omega (arith, few)) (targets_of content target) number func defined
 
   abbrev address : ℕ
   address = code_address content number block (suc place + run)
@@ -99,12 +107,22 @@ module _ (content : ModuleContent) (target : IsTargetModule content) (number : �
       subst (λ n. find (λ (e : Entry). e.return_address == n) (entries (map_of content)) ≡ Some entry) returns_here
       (first_found (λ (e : Entry). e.return_address) (entries (map_of content)) (target_addresses_rise content target) among.0 entry among.1)
 
-  pub has_entry : HasEntry content func (code_address content number block (suc place + run_of (drop (suc place) own.insts))) (take (run_of (drop (suc place) own.insts)) (drop (suc place) own.insts))
+  pub has_entry : HasEntry content func (code_address content number block (suc place + run_of (drop (suc place) own.insts))) (deopt_places (constants_of content) inst)
+      (take (run_of (drop (suc place) own.insts)) (drop (suc place) own.insts))
   has_entry = record {
-    found = ap (option_map frame_entry) first ∙ ap (λ places. Some (record { frame_bytes = 8 * frame_words func; places = places })) (one.places_are ∙ ap group_places text_group_is);
+    found = ap (option_map frame_entry) first ∙ ap (λ places. Some (record { frame_bytes = 8 * frame_words func; places = places })) (one.places_are ∙ ap (group_places (deopt_places constants inst)) text_group_is);
     returns = λ none. let later : 4096 ≤ laid.at = laid.later in let here : address ≡ laid.at + 4 * (length (instructions_of (take block func.blocks)) + (suc place + run)) = address_is in omega arith;
+    deopts_fit = all_deopts_fit (frame_words func) constants inst is (asked 0 text at inst (text_stands func.blocks block own found place inst stands));
     in_frame =
         let shape = (all_at IsTarget content.funcs number func (targets_of content target) defined).shape in
         let rest = all_in_frame func shape (take (suc at) text) (drop (suc at) text) (sym (take-append-drop (suc at) text)) in
         subst (AllByRecursion (IsInFrame (frame_words func))) text_group_is (all_taken (IsInFrame (frame_words func)) (run_of (drop (suc at) text)) (drop (suc at) text) rest);
   }
+
+  -- and the name of its function
+  pub has_name : name_in first_start content.funcs (code_address content number block (suc place + run_of (drop (suc place) own.insts))) ≡ Some func.name
+  has_name =
+      name_found content number func defined block (suc place + run)
+      (subst (λ (before : ℕ). before + (suc place + run) < length text)
+      (sym (ap (λ (one : Option Function). option_map_or (λ (f : Function). length (instructions_of (take block f.blocks))) one 0) defined))
+      (behind_inside func.blocks block own found place inst stands ended is))

@@ -17,6 +17,7 @@ use Rattle.ir_ast.specs.Insts.{Instruction}
 use Rattle.ir_ast.specs.Modules.{ModuleContent}
 use Rattle.move_plan.specs.declared.plan_lines.PlanLine.{PlanLine}
 use Rattle.moving_heap.specs.declared.stands.Stand.{Stand}
+use Rattle.frame_forms.specs.CodeAddresses.{first_start}
 use Rattle.frame_forms.specs.FrameSizes.{frame_words}
 use Rattle.frame_walk.specs.Maps.{found_in}
 use Rattle.object_meaning.specs.Frames.{group_length, is_member}
@@ -24,17 +25,19 @@ use Rattle.object_meaning.specs.Lines.{Line, first_register, insts_in, insts_of,
 use Rattle.object_meaning.specs.States.{Frame}
 use Rattle.object_meaning.specs.TargetRuns.{plain_lines}
 use Rattle.pair_facts.specs.Lines.{group_in, lines_at}
-use Rattle.machine_meaning.specs.Code.{code_address, machinery_of}
+use Rattle.machine_meaning.specs.Code.{code_address, machinery_of, name_in}
 use Rattle.machine_meaning.specs.Machines.{behind, return_address, return_to}
 use Rattle.machine_meaning.specs.Words.{worded}
-use Rattle.stackmap_write.specs.ModuleMaps.{map_of}
+use Rattle.map_bytes.specs.declared.values.Place.{Place}
+use Rattle.stackmap_write.specs.Constants.{constants_of}
+use Rattle.stackmap_write.specs.ModuleMaps.{deopt_places, map_of}
 use Rattle.moves_unseen.specs.Frames.{FrameWords, IsWaiting, group_pairs}
 use Rattle.moves_unseen.specs.States.{worded_frame}
 use Rattle.moves_unseen.specs.Waits.{IsRecorded, IsSound}
-use Rattle.runs_unseen.proofs.records_found.FoundLaws.{HasEntry, has_entry}
+use Rattle.runs_unseen.proofs.records_found.FoundLaws.{HasEntry, has_entry, has_name}
 use Rattle.runs_unseen.proofs.records_found.LineLaws.{group_count, group_is, line_stands, own, pair_of, run_of}
 use Rattle.runs_unseen.proofs.records_found.ListLaws.{prefix_of_images}
-use Rattle.runs_unseen.proofs.records_found.SlotLaws.{entry_with, is_usable, pairs_are}
+use Rattle.runs_unseen.proofs.records_found.SlotLaws.{deopts_are, entry_with, is_usable, pairs_behind}
 
 -- the block of an instruction
 record InBlock (func : Function) (block place : ℕ) (inst : Instruction) : Type 0 where
@@ -79,7 +82,7 @@ module _ (content : ModuleContent) (sound : IsSound content) (plan : List PlanLi
   abbrev group : List Instruction
   group = take run (drop (suc place) inside.own.insts)
 
-  rest_is : frame.rest ≡ waiting.call ∷ rest
+  pub rest_is : frame.rest ≡ waiting.call ∷ drop (suc waiting.place) (lines_at waiting.func frame.block)
   rest_is = waiting.at.rest ∙ (drop_at lines place waiting.call waiting.is ∙ ap (λ n. waiting.call ∷ drop n lines) (add-one place))
 
   abbrev given : List Line
@@ -108,18 +111,26 @@ module _ (content : ModuleContent) (sound : IsSound content) (plan : List PlanLi
       ap (λ (lines : List Line). return_to (machinery_of content (map_of content) plan bound) (worded_frame frame held.words) (map worded lines)) rest_is
       ∙ ap (code_address content frame.func frame.block) count
 
-  has : HasEntry content waiting.func (code_address content frame.func frame.block (suc place + run)) group
+  abbrev deopts : List Place
+  deopts = deopt_places (constants_of content) waiting.call.inst
+
+  has : HasEntry content waiting.func (code_address content frame.func frame.block (suc place + run)) deopts group
   has = has_entry content sound.target frame.func waiting.func waiting.at.defined frame.block inside.own inside.found place waiting.call.inst inside.stands waiting.statepoint
 
   members_are : map own (group_in lines place) ≡ group
   members_are = group_is waiting.func frame.block place ∙ ap (λ insts. take (run_of (drop (suc place) insts)) (drop (suc place) insts)) inside.same
 
   pub record_is_found : IsRecorded (machinery_of content (map_of content) plan bound) frame held (group_pairs (lines_at waiting.func frame.block) waiting.place)
+      (deopt_places (constants_of content) waiting.call.inst) waiting.func.name
   record_is_found = record {
-    entry = entry_with (frame_words waiting.func) group;
+    entry = entry_with (frame_words waiting.func) deopts group;
     found = ap (found_in (map_of content)) address_is ∙ has.found;
     returns = λ none. has.returns (sym address_is ∙ none);
     size = let back : 8 * frame_words waiting.func / 8 ≡ frame_words waiting.func = omega arith in back ∙ sym waiting.room;
-    fits = λ left fits. is_usable (frame_words waiting.func) group has.in_frame left (omega (arith, waiting.room));
-    pairs_are = pairs_are group ∙ (ap (flat_map pair_of) (sym members_are) ∙ flat_map-map pair_of own (group_in lines place));
+    fits = λ left fits. is_usable (frame_words waiting.func) deopts group has.deopts_fit has.in_frame left (omega (arith, waiting.room));
+    pairs_are = pairs_behind (frame_words waiting.func) deopts group ∙ (ap (flat_map pair_of) (sym members_are) ∙ flat_map-map pair_of own (group_in lines place));
+    deopts_are = deopts_are (frame_words waiting.func) deopts group;
+    named =
+        ap (name_in first_start content.funcs) address_is
+        ∙ has_name content sound.target frame.func waiting.func waiting.at.defined frame.block inside.own inside.found place waiting.call.inst inside.stands waiting.statepoint;
   }

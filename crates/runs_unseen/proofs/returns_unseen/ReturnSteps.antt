@@ -41,6 +41,7 @@ use Rattle.moves_unseen.specs.Steps.{StepFollows, both_end, both_go}
 use Rattle.moves_unseen.specs.Waits.{IsSound, Returns}
 use Rattle.moves_unseen.specs.Waits as lines
 use Rattle.moves_unseen.proofs.SelectSteps.{worded_at}
+use Rattle.moves_unseen.proofs.LastLaws.{last_of, last_running}
 use Rattle.runs_unseen.proofs.frames_resumed.StateLaws.{nothing_answers, resumed_follows}
 use Rattle.runs_unseen.proofs.returns_unseen.AnswerLaws.{answers_caller, answers_run}
 
@@ -89,11 +90,11 @@ module _ (content : ModuleContent) (sound : IsSound content) (map_given : StackM
   by_tasks : (all : List (List Frame)) (more : List (List FrameWords)) → AllZip (λ frames held. AllZip (IsWaiting content extra.heap.stands) frames held) all more
       → AllAwait content state.running.func [] state.task all
       → StepFollows content machinery (handed_over (next [] all) (slice_get all 0)) (handed_machine (now [] [] all more) (slice_get (worded_tasks all more) 0))
-  by_tasks [] [] waiting await = both_end (Trap Unreachable) (next [] []) (now [] [] [] []) (record { extra = besides [] []; is = refl; objects = related.objects })
+  by_tasks [] [] waiting await = both_end (Trap Unreachable) (next [] []) (now [] [] [] []) (last_running content machinery (next [] []) (besides [] []) related.objects related.running tt)
   by_tasks [] (helds ∷ more) waiting await = absurd waiting
   by_tasks (frames ∷ all) [] waiting await = absurd waiting
   by_tasks ([] ∷ all) ([] ∷ more) waiting await =
-      both_end (Trap Unreachable) (next [] ([] ∷ all)) (now [] [] ([] ∷ all) ([] ∷ more)) (record { extra = besides [] ([] ∷ more); is = refl; objects = related.objects })
+      both_end (Trap Unreachable) (next [] ([] ∷ all)) (now [] [] ([] ∷ all) ([] ∷ more)) (last_running content machinery (next [] ([] ∷ all)) (besides [] ([] ∷ more)) related.objects related.running tt)
   by_tasks ([] ∷ all) ((held ∷ helds) ∷ more) waiting await = absurd waiting.0
   by_tasks ((frame ∷ below) ∷ all) ([] ∷ more) waiting await = absurd waiting.0
   by_tasks ((frame ∷ below) ∷ all) ((held ∷ helds) ∷ more) waiting await =
@@ -118,7 +119,7 @@ module _ (content : ModuleContent) (sound : IsSound content) (map_given : StackM
   by_task await true first =
       subst (λ (n : ℕ). StepFollows content machinery (ends (Return (signed width (number_in answer))) (next [] state.tasks)) (ends (Return (signed width n)) (now [] [] state.tasks extra.tasks)))
       (sym (answers_run content sound state.objects extra.heap.stands state.running extra.running related.running line rest is op_is (await.runs (eqb-true state.task 0 first))))
-      (both_end (Return (signed width (number_in answer))) (next [] state.tasks) (now [] [] state.tasks extra.tasks) (record { extra = besides [] extra.tasks; is = refl; objects = related.objects }))
+      (both_end (Return (signed width (number_in answer))) (next [] state.tasks) (now [] [] state.tasks extra.tasks) (last_running content machinery (next [] state.tasks) (besides [] extra.tasks) related.objects related.running tt))
   by_task await false other = by_tasks state.tasks extra.tasks related.tasks await
 
   -- ---- a return to the frame below
@@ -179,7 +180,7 @@ module _ (content : ModuleContent) (sound : IsSound content) (map_given : StackM
           (λ (after : Machine). returns machinery after (width_of (worded line).inst.ty) (operand after.state.running.registers (worded line).inst.operands 0) after.state.below)
           (if b then goes_on (record machine.state { steps = state.steps + 1 }) else ends OutOfSteps machine.state))
       by true = taken
-      by false = both_end OutOfSteps state machine (record { extra = extra; is = refl; objects = related.objects })
+      by false = both_end OutOfSteps state machine (last_of content machinery state extra related)
 
 is_return : (op : Op) → Returns op → op ≡ ops.Ret
 is_return _ lines.returns = refl

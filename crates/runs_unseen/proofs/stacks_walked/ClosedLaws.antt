@@ -1,12 +1,13 @@
 -- A frame that waits in a verified module: its slots hold each pair of its group, and each base of a pair is `null` or has a slot
 -- that moves with it. So the slots have the words of the same pointers after a group of moves.
-use Rattle.std.proofs.Common.{◌≡◌, ℕ, zero, suc, ◌<◌, ◌==◌, ◌&&◌, ◌||◌, Bool, true, false, List, [], ◌∷◌, ◌++◌, length, map, get_or, set, refl, sym, ap, ◌∙◌, subst, Option, Some, ◌⊎◌, inl, inr}
+use Rattle.std.proofs.Common.{◌≡◌, ℕ, zero, suc, ◌+◌, ◌<◌, ◌≤◌, ◌==◌, ◌&&◌, ◌||◌, Bool, true, false, List, [], ◌∷◌, ◌++◌, length, map, get_or, set, refl, sym, ap, ◌∙◌, subst, arith, Option, Some, ◌⊎◌, inl, inr}
 use Rattle.std.specs.Prelude.{slice_get, if◌then◌else◌}
 use Rattle.std.specs.List.{AllByRecursion, Contains, flat_map, list_any}
 use Rattle.std.proofs.lemmas.Bool.{and_parts, eqb-true}
-use Rattle.std.proofs.lemmas.List.{length-set}
+use Rattle.std.proofs.lemmas.List.{get_or-set_other, length-set}
 use Rattle.std.proofs.lemmas.Option.{none-some, same_Some}
 use Rattle.list_laws.proofs.Contents.{all_at, contains_first, contains_later, get_contained, joined_contains}
+use Rattle.list_laws.proofs.Places.{map_back}
 use Rattle.ir_ast.specs.declared.modules.Form.{Form}
 use Rattle.ir_ast.specs.declared.ops.Operand.{Operand}
 use Rattle.ir_ast.specs.declared.ops.Operand.TheVariants as operands
@@ -40,8 +41,9 @@ use Rattle.machine_meaning.proofs.SlotLaws.{slots_after}
 use Rattle.moves_unseen.specs.Frames.{FrameWords, IsWaiting, group_pairs, relocated_pair}
 use Rattle.moves_unseen.specs.Waits.{IsSound}
 use Rattle.runs_unseen.proofs.records_found.SlotLaws.{IsInFrame, all_in_frame}
+use Rattle.runs_unseen.proofs.frames_spilled.EntryPairs.{derived_within}
 use Rattle.runs_unseen.proofs.frames_spilled.GroupSlots.{IsPairOf, entry_pointer, pair_in_group, pair_of}
-use Rattle.runs_unseen.proofs.frames_spilled.TextLaws.{line_in_text, no_bundle, nothing_kept}
+use Rattle.runs_unseen.proofs.frames_spilled.TextLaws.{line_in_text}
 use Rattle.object_meaning.proofs.LineLaws.{line_is}
 
 -- ---- the pairs of a group
@@ -90,6 +92,14 @@ arrives_reached func _ _ (went from to front arrives edge) =
 written_length : (writes : List SlotWrite) (words : List ℕ) → length (write_slots writes words) ≡ length words
 written_length [] words = refl
 written_length (write ∷ writes) words = written_length writes (set words write.to write.word) ∙ length-set words write.to write.word
+
+-- a word to which nothing is written
+written_elsewhere : (writes : List SlotWrite) (words : List ℕ) (at : ℕ) → ((k : ℕ) (write : SlotWrite) → slice_get writes k ≡ Some write → write.to ≡ at → ⊥)
+    → get_or (write_slots writes words) at 0 ≡ get_or words at 0
+written_elsewhere [] words at other = refl
+written_elsewhere (write ∷ writes) words at other =
+    written_elsewhere writes (set words write.to write.word) at (λ k one found. other (suc k) one found)
+    ∙ get_or-set_other words write.to at write.word 0 (λ same. other 0 write refl (sym same))
 
 -- ---- one frame
 
@@ -178,6 +188,17 @@ module _ (content : ModuleContent) (sound : IsSound content) (stands : List Stan
   pub slots_length : (moves : List Moved) → length (after_slots moves) ≡ length held.slots
   slots_length moves = written_length (map (slot_write moves held.slots) pairs) held.slots
 
+  -- derived slots are those of live entries, so that the words behind these stay
+  integers_stay : (moves_given : List Move) (flip : Option ℕ) (at : ℕ) → length (entries_of waiting.call.inst) ≤ at
+      → get_or (after_slots (group_moves stands moves_given flip)) at 0 ≡ get_or held.slots at 0
+  integers_stay moves_given flip at behind =
+      written_elsewhere (map (slot_write (group_moves stands moves_given flip) held.slots) pairs) held.slots at
+      (λ k write found same.
+      let from = map_back (slot_write (group_moves stands moves_given flip) held.slots) pairs k write found in
+      let within = derived_within content sound.verified frame func waiting.place waiting.pairs waiting.at waiting.call waiting.is waiting.statepoint k from.before from.stands in
+      let to : from.before.derived ≡ at = sym (ap (λ (w : SlotWrite). w.to) from.is) ∙ same in
+      let no : ⊥ = omega arith in no)
+
   -- the frame waits after the group of an event, with its slots written
   pub waits_after : AreSettled stands → (moves_given : List Move) (flip : Option ℕ) → (group_moves stands moves_given flip ≡ [] → ⊥)
       → IsWaiting content (map (carried (group_moves stands moves_given flip)) stands) frame (record held { slots = after_slots (group_moves stands moves_given flip) })
@@ -197,7 +218,5 @@ module _ (content : ModuleContent) (sound : IsSound content) (stands : List Stan
         subst (λ (next : List Stand). AreSlots next entries (after_slots (group_moves stands moves_given flip)) pairs) (sym (group_places stands moves_given flip settled some))
         (subst (λ (made : List Moved). AreSlots (moved stands (group_targets stands moves_given flip)) entries (after_slots made) pairs) (sym (group_is stands moves_given flip some).1)
         (slots_after stands (group_targets stands moves_given flip) entries held.slots pairs settled closed waiting.slots));
-    bundle =
-        nothing_kept frame.registers waiting.call.inst (after_slots (group_moves stands moves_given flip))
-        (no_bundle content sound.bundles frame.func func waiting.at.defined frame.block waiting.place waiting.call waiting.is);
+    bundle = λ at entry found. integers_stay moves_given flip (length (entries_of waiting.call.inst) + at) (omega arith) ∙ waiting.bundle at entry found;
   }

@@ -13,36 +13,17 @@ use Rattle.moving_heap.specs.declared.stands.Stand.{Stand}
 use Rattle.moving_heap.specs.Places.{carried, group_moves}
 use Rattle.moving_heap.specs.Settled.{AreSettled}
 use Rattle.object_meaning.specs.States.{Frame}
-use Rattle.stackmap_write.specs.ModuleMaps.{map_of}
+use Rattle.stackmap_write.specs.Constants.{constants_of}
+use Rattle.stackmap_write.specs.ModuleMaps.{deopt_places, map_of}
 use Rattle.machine_meaning.specs.Code.{machinery_of}
 use Rattle.machine_meaning.specs.Machines.{Machinery, return_address}
 use Rattle.machine_meaning.specs.Moving.{walked_task}
 use Rattle.moves_unseen.specs.Frames.{FrameWords, IsWaiting}
 use Rattle.moves_unseen.specs.States.{return_below, stack_of, worded_frame, worded_frames}
 use Rattle.moves_unseen.specs.Waits.{IsRecorded, IsSound, IsWalked}
+use Rattle.frames_shown.proofs.StackLaws.{dropped_behind, got_behind, taken_front}
 use Rattle.runs_unseen.proofs.records_found.WaitingLaws.{record_is_found}
 use Rattle.runs_unseen.proofs.stacks_walked.ClosedLaws.{after_slots, pairs, waits_after}
-
--- ---- lists
-
-taken_front : (xs : List ℕ) (n : ℕ) (ys : List ℕ) → n ≡ length xs → take n (xs ++ ys) ≡ xs
-taken_front [] zero ys is = refl
-taken_front [] (suc n) ys is = absurd (omega arith)
-taken_front (x ∷ xs) zero ys is = absurd (omega arith)
-taken_front (x ∷ xs) (suc n) ys is = ap (λ (rest : List ℕ). x ∷ rest) (taken_front xs n ys (omega arith))
-
-got_behind : (xs : List ℕ) (n y : ℕ) (ys : List ℕ) → n ≡ length xs → get_or (xs ++ y ∷ ys) n 0 ≡ y
-got_behind [] zero y ys is = refl
-got_behind [] (suc n) y ys is = absurd (omega arith)
-got_behind (x ∷ xs) zero y ys is = absurd (omega arith)
-got_behind (x ∷ xs) (suc n) y ys is = got_behind xs n y ys (omega arith)
-
-dropped_behind : (xs : List ℕ) (n y : ℕ) (ys : List ℕ) → n ≡ length xs + 1 → drop n (xs ++ y ∷ ys) ≡ ys
-dropped_behind [] zero y ys is = absurd (omega arith)
-dropped_behind [] (suc zero) y ys is = refl
-dropped_behind [] (suc (suc n)) y ys is = absurd (omega arith)
-dropped_behind (x ∷ xs) zero y ys is = absurd (omega arith)
-dropped_behind (x ∷ xs) (suc n) y ys is = dropped_behind xs n y ys (omega arith)
 
 -- ---- one frame
 
@@ -101,7 +82,7 @@ module _ (content : ModuleContent) (sound : IsSound content) (plan : List PlanLi
         waiting = (waits_after content sound stands frame held waiting.0 settled lines flip some, below.waiting);
       }
     where
-      recorded : IsRecorded machinery frame held (pairs content sound stands frame held waiting.0)
+      recorded : IsRecorded machinery frame held (pairs content sound stands frame held waiting.0) (deopt_places (constants_of content) waiting.0.call.inst) waiting.0.func.name
       recorded = record_is_found content sound plan bound stands frame held waiting.0
 
       next : ℕ

@@ -10,4 +10,4 @@ returns-clause-laid c =
     add_step c.args.func.now.content c.args.start c.args.returns.now.items _ c.args.entries.now.items _ _ c.requires c.in_ok-add_returns.ensures c.in_ok-push.ensures.items
     refl (ap (λ n. 8 * n) c.frame_words.ensures.value)
     (c.statepoints_of.ensures ∙ ap (λ blocks. count_by (λ inst. is_statepoint inst.op) (instructions_of blocks)) c.blocks-2.ensures.value)
-    (omega arith) (omega arith)
+    (omega arith) (omega arith) c.in_ok-bundles_of.ensures

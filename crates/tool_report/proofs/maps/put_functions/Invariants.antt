@@ -7,4 +7,4 @@ use Rattle.tool_report.proofs.maps.put_functions.Given as goal
 
 abbrev pub invariant-loop-index : goal.invariant-loop-index
 invariant-loop-index g l =
-    TookBefore g.W.PieceSink.took l.initial.out l.out (text_of_map (stack_map l.view)) (lines_of (drop l.index (stack_map l.view).functions) (records_left l.records))
+    TookBefore g.W.PieceSink.took l.initial.out l.out (text_of_map (stack_map l.view)) (lines_of (stack_map l.view).constants (drop l.index (stack_map l.view).functions) (records_left l.records))
