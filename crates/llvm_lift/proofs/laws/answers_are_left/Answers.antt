@@ -1,0 +1,5 @@
+use Rattle.llvm_lift.proofs.AnswerLaws as laws
+use Rattle.llvm_lift.proofs.laws.answers_are_left.Goals as goal
+
+pub returns : goal.returns
+returns c = laws.answers_are_left
