@@ -1,0 +1,4 @@
+pub mod BaseLemmas
+pub mod LineLemmas
+mod Samples
+pub mod ValueLemmas

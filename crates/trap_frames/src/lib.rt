@@ -1,0 +1,12 @@
+//! What the frames that wait show where a run of the address machine traps, read from the stack through the map.
+#![tactic(auto)]
+
+mod asked;
+mod bases;
+mod deopts;
+mod lines;
+mod values;
+
+pub use asked::{Functions, Objects};
+pub use deopts::{Shown, deopt_line};
+pub use lines::{Stopped, write_waiting};
