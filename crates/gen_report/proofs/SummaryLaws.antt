@@ -8,7 +8,7 @@ use Rattle.ir_ast.specs.Modules.{ModuleContent}
 use Rattle.ir_cfg.specs.SourceModules.{IsSourceModule}
 use Rattle.ir_cfg.specs.TargetModules.{IsTargetModule}
 use Rattle.generated_forms.specs.Modules.{generated}
-use Rattle.ir_machine.specs.declared.run.Ran.{Ran}
+use Rattle.run_tasks.specs.declared.runs.Ran.{Ran}
 use Rattle.machine_meaning.specs.MachineRuns.{MachineOutcome}
 use Rattle.map_bytes.specs.Maps.{map_bytes}
 use Rattle.move_plan.specs.Plans.{go}

@@ -2,8 +2,8 @@
 use Rattle.std.specs.Prelude.{◌≡◌, ℕ, List, [], ◌++◌, length}
 use Rattle.ir_ast.specs.Faults.GroupShape.{is_statepoint}
 use Rattle.ir_ast.specs.Modules.{ModuleContent}
-use Rattle.ir_machine.specs.declared.run.Ran.{Ran}
-use Rattle.ir_machine.specs.Answers.{ran_of}
+use Rattle.run_tasks.specs.declared.runs.Ran.{Ran}
+use Rattle.run_tasks.specs.Runs.{ran_of}
 use Rattle.machine_meaning.specs.MachineRuns.{MachineOutcome, MachineGives}
 use Rattle.object_meaning.specs.Texts.{function_name}
 use Rattle.stackmap_write.specs.ModuleMaps.{map_of}
@@ -14,7 +14,7 @@ use Rattle.gen_report.specs.Summaries.{Told, count_lines, flipping, instructions
 pub record IsFlippingRun (after : ModuleContent) (steps : ℕ) (ran : Ran) : Type 0 where
   pub machine : MachineOutcome
   pub gives : MachineGives after (map_of after) [] flipping steps machine
-  pub answer : ran ≡ ran_of machine
+  pub answer : ran ≡ ran_of machine.end machine.func machine.steps machine.events machine.printed
 
 -- what is told of a rewritten module, by these numbers and by what its run answers
 abbrev pub told_of : (functions statepoints relocates bytes : ℕ) → ModuleContent → Ran → Told

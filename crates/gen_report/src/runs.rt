@@ -14,8 +14,9 @@ ghost use Rattle.gen_report.specs.Summaries.{flipping};
 
 use frame_slots::Layouts;
 use ir_ast::Module;
-use ir_machine::{Ran, Shows, SureFault, run_verified};
+use ir_machine::{Shows, SureFault, run_verified};
 use move_plan::{Plan, PlanFault};
+use run_tasks::Ran;
 use sp_ids::Memory;
 use sp_rewrite::RewriteFault;
 use stackmap_view::MapView;

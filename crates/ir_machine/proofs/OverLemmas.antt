@@ -1,8 +1,9 @@
 -- A run that has gone on over quiet lines has made a step for each, and written nothing.
 use Rattle.std.proofs.Common.{◌≡◌, ℕ, zero, suc, Bool, true, false, List, [], ◌∷◌, refl, sym, ap, subst, ◌∙◌}
-use Rattle.std.specs.Prelude.{Option, if◌then◌else◌}
+use Rattle.std.specs.Prelude.{if◌then◌else◌}
 use Rattle.std.specs.List.{flat_map}
-use Rattle.tool_io.proofs.AppendLaws.{append_known-nil}
+use Rattle.piece_writer.specs.LinePuts.{SinkTold}
+use Rattle.piece_writer.proofs.LineLaws.{puts_none}
 use Rattle.ir_ast.specs.declared.ops.Callee.{Callee}
 use Rattle.ir_ast.specs.declared.ops.Callee.TheVariants.{Check}
 use Rattle.ir_ast.specs.declared.ops.Op.{Op}
@@ -39,11 +40,11 @@ no_event machinery true machine line rest stands quiet =
     ∙ ap (flat_map (event_lines (with_event machine.state).events)) (quiet_line machinery machine line line.inst.op quiet)
 no_event machinery false machine line rest stands quiet = refl
 
-module _ (content : ModuleContent) (machinery : Machinery) (shows : Shows) (start : Progress Machine) (one : Happening) (count : ℕ) (old now : Option (List ℕ)) where
+module _ (content : ModuleContent) (machinery : Machinery) (shows : Shows) (start : Progress Machine) (one : Happening) (count : ℕ) (old now : SinkTold) where
   follows_passed : (machine next : Machine) → Passes machinery machine next → Follows machinery shows.trace start machine count old now → Follows machinery shows.trace start next count old now
   follows_passed machine next passes follows =
       follows_more content machinery shows start machine machine next count old now follows false one GoesOn
-      (no_event machinery shows.trace machine passes.line passes.rest passes.stands passes.quiet) refl (ap told (sym passes.goes)) refl now (sym (append_known-nil now))
+      (no_event machinery shows.trace machine passes.line passes.rest passes.stands passes.quiet) refl (ap told (sym passes.goes)) refl now (puts_none now)
 
   follows_often : (often : ℕ) (machine next : Machine) → PassesOften machinery often machine next → Follows machinery shows.trace start machine count old now → Follows machinery shows.trace start next count old now
   follows_often zero machine next same follows = subst (λ (m : Machine). Follows machinery shows.trace start m count old now) (sym same) follows

@@ -1,9 +1,14 @@
 -- A run by its steps, and what it has written.
 use Rattle.std.proofs.Common.{◌≡◌, ℕ, ℤ, suc, ◌+◌, ◌-◌, ◌^◌, min, Bool, false, List, [], ◌∷◌, ◌++◌, length, Option, Some, None, refl, sym, ap, ◌∙◌, subst, arith, inl, inr}
 use Rattle.std.specs.List.{All, concat}
+use Rattle.std.proofs.lemmas.List.{append-nil, append_assoc}
+use Rattle.std.proofs.lemmas.List.Elements.{All-same}
 use Rattle.std.proofs.lemmas.List.Folds.{concat-append}
+use Rattle.list_laws.proofs.Contents.{all_back}
 use Rattle.tool_io.specs.Sink.{append_known, AppendsFront}
-use Rattle.tool_io.proofs.AppendLaws.{append_known-nil, append_known-then, AppendsFront-all, AppendsFront-first, AppendsFront-nothing, AppendsFront-same, AppendsFront-second}
+use Rattle.tool_io.proofs.AppendLaws.{append_known-then, AppendsFront-first, AppendsFront-same, AppendsFront-second}
+use Rattle.piece_writer.specs.LinePuts.{IsShort, PutsFirst, PutsLines, SinkTold}
+use Rattle.piece_writer.proofs.LineLaws.{first_after, first_all, first_front, first_more, first_none, first_same, puts_both, puts_none, puts_same}
 use Rattle.sp_ids.specs.declared.ends.End.{End}
 use Rattle.sp_ids.specs.declared.ends.End.TheVariants as stops
 use Rattle.ir_ast.specs.Bundles.{HasNoBundle}
@@ -31,23 +36,24 @@ use Rattle.runs_unseen.proofs.MapLaws.{closing_nothing, names_nothing}
 use Rattle.runs_unseen.proofs.SeenRuns.{seen_here}
 use Rattle.tool_report.specs.Closings.{closing_line}
 use Rattle.run_texts.specs.RunTexts.{RunWrites, RunWritesQuiet, end_lines, lines_from, no_frames, printed_by, run_lines, step_lines}
-use Rattle.run_texts.proofs.TextLaws.{bare_texts, traced_last, written_first}
+use Rattle.run_texts.proofs.TextLaws.{bare_texts, traced_front, traced_last, written_first}
+use Rattle.run_tasks.specs.declared.runs.Ran.{Ran}
+use Rattle.run_tasks.proofs.RunLemmas.{ran_is}
 use Rattle.run_traces.specs.declared.happenings.Happening.{Happening}
 use Rattle.ir_machine.specs.declared.executor.Did.{Did}
 use Rattle.ir_machine.specs.declared.executor.Did.TheVariants.{GoesOn, Prints, Ends as Finishes}
-use Rattle.ir_machine.specs.declared.run.Ran.{Ran}
 use Rattle.ir_machine.specs.declared.run.Shows.{Shows}
 use Rattle.ir_machine.specs.Executors.{effect_of, told, without_words}
 use Rattle.ir_machine.specs.Traces.{StepForeseen, did_lose, is_lost, shown_lines}
-use Rattle.ir_machine.specs.Answers.{BeginsText, BeginsWhole, Follows, IsRunFrom, IsRunOver, IsRunUnseen, WritesFrontFrom, WritesFrontOver, counted_by, ended_of, printed_of, quiet_lines, step_text, unprinted}
+use Rattle.ir_machine.specs.Answers.{BeginsText, Follows, IsRunFrom, IsRunOver, IsRunUnseen, PutsFrontOver, PutsRunOver, WritesFrontFrom, WritesFrontOver, counted_by, ended_of, lines_of_step, lines_over, printed_of, quiet_lines, unprinted}
 use Rattle.ir_machine.proofs.QuietLemmas.{closing_untrapped}
 
-pub follows_start : (machinery : Machinery) (trace : Bool) (machine : Machine) (old : Option (List ℕ)) → AreSettled machine.heap.stands → Follows machinery trace (unprinted machine) machine 0 old old
+pub follows_start : (machinery : Machinery) (trace : Bool) (machine : Machine) (old : SinkTold) → AreSettled machine.heap.stands → Follows machinery trace (unprinted machine) machine 0 old old
 follows_start machinery trace machine old settled = record {
   lines = [];
   reached = record { after = 0; by = refl };
   counted = refl;
-  written = sym (append_known-nil old);
+  puts = puts_none old;
   settled = settled;
 }
 
@@ -115,7 +121,7 @@ settled_end next (Finishes over) end machinery machine settled e is =
 
 -- ---- a step further
 
-module _ (content : ModuleContent) (machinery : Machinery) (shows : Shows) (start : Progress Machine) (machine later next : Machine) (count : ℕ) (old now : Option (List ℕ))
+module _ (content : ModuleContent) (machinery : Machinery) (shows : Shows) (start : Progress Machine) (machine later next : Machine) (count : ℕ) (old now : SinkTold)
     (follows : Follows machinery shows.trace start machine count old now) where
   abbrev written_so_far : List (List ℕ)
   written_so_far = lines_from machinery shows.trace follows.reached.after (Go start)
@@ -126,7 +132,10 @@ module _ (content : ModuleContent) (machinery : Machinery) (shows : Shows) (star
   one_step = goes_more (machine_proceeds machinery) follows.reached.after (Go start) ∙ ap (advance (machine_proceeds machinery)) follows.reached.by
 
   pub follows_front : WritesFrontFrom content machinery shows start old now
-  follows_front = inl (record { steps = follows.reached.after; front = AppendsFront-all old now (concat written_so_far) follows.written })
+  follows_front = inl (record {
+    steps = follows.reached.after;
+    puts = first_same old now (written_so_far ++ []) written_so_far (append-nil written_so_far) (first_all old now written_so_far [] follows.puts);
+  })
 
   module _ (event : Bool) (one : Happening) (did : Did) (foreseen : StepForeseen machinery shows.trace machine event one) (same : machine_step machinery later ≡ machine_step machinery machine)
       (does : told (effect_of did next) ≡ told (machine_step machinery later)) where
@@ -144,25 +153,25 @@ module _ (content : ModuleContent) (machinery : Machinery) (shows : Shows) (star
         ∙ ap (λ (state : Next End (Progress Machine)). written_so_far ++ done_at (λ progress. step_lines machinery shows.trace progress.state) state) follows.reached.by
         ∙ ap (λ lines. written_so_far ++ lines) step_is
 
-    text_next : concat (lines_from machinery shows.trace (suc follows.reached.after) (Go start)) ≡ concat written_so_far ++ step_text event one did
-    text_next = ap concat lines_next ∙ concat-append written_so_far (shown_lines event (did_lose did) one ++ printed_of did)
-
-    pub step_front : (new : Option (List ℕ)) → AppendsFront now new (step_text event one did) → WritesFrontFrom content machinery shows start old new
+    pub step_front : (new : SinkTold) → PutsFirst now new (lines_of_step event one did) → WritesFrontFrom content machinery shows start old new
     step_front new front = inl (record {
       steps = suc follows.reached.after;
-      front = AppendsFront-same (AppendsFront-second old (concat written_so_far) follows.written front) (concat (lines_from machinery shows.trace (suc follows.reached.after) (Go start))) text_next;
+      puts = first_same old new (written_so_far ++ lines_of_step event one did) (lines_from machinery shows.trace (suc follows.reached.after) (Go start)) (sym lines_next)
+          (first_after old now new written_so_far (lines_of_step event one did) follows.puts front);
     })
 
-    module _ (mid : Option (List ℕ)) (added : mid ≡ append_known now (step_text event one did)) where
-      written_next : mid ≡ append_known old (concat (lines_from machinery shows.trace (suc follows.reached.after) (Go start)))
-      written_next = append_known-then old now mid (concat written_so_far) (step_text event one did) follows.written added ∙ ap (append_known old) (sym text_next)
+    module _ (mid : SinkTold) (added : PutsLines now mid (lines_of_step event one did)) where
+      puts_next : PutsLines old mid (lines_from machinery shows.trace (suc follows.reached.after) (Go start))
+      puts_next =
+          puts_same old mid (written_so_far ++ lines_of_step event one did) (lines_from machinery shows.trace (suc follows.reached.after) (Go start)) (sym lines_next)
+          (puts_both old now mid written_so_far (lines_of_step event one did) follows.puts added)
 
       goes_so : goes_on next ≡ machine_step machinery machine → Follows machinery shows.trace start next count old mid
       goes_so e = record {
         lines = follows.lines;
         reached = record { after = suc follows.reached.after; by = one_step ∙ ap (after follows.lines) (sym e) };
         counted = follows.counted;
-        written = written_next;
+        puts = puts_next;
         settled = settled_after next (machine_step machinery machine) e (step_sound machinery machine follows.settled);
       }
 
@@ -171,13 +180,13 @@ module _ (content : ModuleContent) (machinery : Machinery) (shows : Shows) (star
         lines = printed_line word ∷ follows.lines;
         reached = record { after = suc follows.reached.after; by = one_step ∙ ap (after follows.lines) (sym e) };
         counted = counted_more (length follows.lines) count follows.counted;
-        written = written_next;
+        puts = puts_next;
         settled = settled_printed next word (machine_step machinery machine) e (step_sound machinery machine follows.settled);
       }
 
   -- a step that isn't the last
   pub follows_more : (event : Bool) (one : Happening) (did : Did) → StepForeseen machinery shows.trace machine event one → machine_step machinery later ≡ machine_step machinery machine
-      → told (effect_of did next) ≡ told (machine_step machinery later) → ended_of did ≡ None → (mid : Option (List ℕ)) → mid ≡ append_known now (step_text event one did)
+      → told (effect_of did next) ≡ told (machine_step machinery later) → ended_of did ≡ None → (mid : SinkTold) → PutsLines now mid (lines_of_step event one did)
       → Follows machinery shows.trace start next (counted_by did count) old mid
   follows_more event one GoesOn foreseen same does goes mid added =
       goes_so event one GoesOn foreseen same does mid added (told_on next (machine_step machinery machine) (does ∙ ap told same))
@@ -187,7 +196,7 @@ module _ (content : ModuleContent) (machinery : Machinery) (shows : Shows) (star
 
   -- the last one
   module _ (event : Bool) (one : Happening) (over end : End) (foreseen : StepForeseen machinery shows.trace machine event one) (same : machine_step machinery later ≡ machine_step machinery machine)
-      (does : told (effect_of (Finishes over) next) ≡ told (machine_step machinery later)) (is : over ≡ end) (mid new : Option (List ℕ)) (added : mid ≡ append_known now (step_text event one (Finishes over))) where
+      (does : told (effect_of (Finishes over) next) ≡ told (machine_step machinery later)) (is : over ≡ end) (mid new : SinkTold) (added : PutsLines now mid (lines_of_step event one (Finishes over))) where
     abbrev like : EndsLike over next (machine_step machinery machine)
     like = told_end over next (machine_step machinery machine) (does ∙ ap told same)
 
@@ -197,36 +206,46 @@ module _ (content : ModuleContent) (machinery : Machinery) (shows : Shows) (star
       by = one_step ∙ ap (after follows.lines) (sym (ap (λ (how : End). ends how like.last) (sym is) ∙ like.like.is));
     }
 
-    quiet_is : concat (quiet_lines content machinery shows (suc follows.reached.after) start end like.last)
-        ≡ concat (lines_from machinery shows.trace (suc follows.reached.after) (Go start)) ++ concat (end_lines content shows.places end next)
-    quiet_is =
-        concat-append (lines_from machinery shows.trace (suc follows.reached.after) (Go start)) (end_lines content shows.places end like.last)
-        ∙ ap (λ (m : Machine). concat (lines_from machinery shows.trace (suc follows.reached.after) (Go start)) ++ concat (end_lines content shows.places end m)) (sym like.like.same)
+    abbrev before_end : List (List ℕ)
+    before_end = lines_from machinery shows.trace (suc follows.reached.after) (Go start)
 
-    before : mid ≡ append_known old (concat (lines_from machinery shows.trace (suc follows.reached.after) (Go start)))
-    before = written_next event one (Finishes over) foreseen same does mid added
+    abbrev at_end : List (List ℕ)
+    at_end = end_lines content shows.places end next
 
-    ended : new ≡ append_known mid (concat (end_lines content shows.places end next)) → (ran : Ran)
+    abbrev quiet : List (List ℕ)
+    quiet = quiet_lines content machinery shows (suc follows.reached.after) start end like.last
+
+    quiet_is : before_end ++ at_end ≡ quiet
+    quiet_is = ap (λ (m : Machine). before_end ++ end_lines content shows.places end m) like.like.same
+
+    before : PutsLines old mid before_end
+    before = puts_next event one (Finishes over) foreseen same does mid added
+
+    short_end : All IsShort quiet → All IsShort at_end
+    short_end short = all_back IsShort before_end at_end (All-same IsShort (before_end ++ at_end) quiet quiet_is short)
+
+    ended : new.written ≡ append_known mid.written (concat at_end) → (All IsShort at_end → PutsLines mid new at_end) → (ran : Ran)
         → ran ≡ record { end = end; func = record { 0 = next.state.running.func }; steps = next.state.steps; events = next.state.events; lines = count }
         → IsRunFrom content machinery shows start ran old new
-    ended closed ran ran_is = rw ran_is (record {
+    ended closed put ran ran_is = rw ran_is (record {
       last = record { state = like.last; lines = follows.lines };
       run = ends_so;
       func = ap (λ (m : Machine). m.state.running.func) like.like.same;
       steps = ap (λ (m : Machine). m.state.steps) like.like.same;
       events = ap (λ (m : Machine). m.state.events) like.like.same;
       lines = follows.counted;
-      written = append_known-then old mid new (concat (lines_from machinery shows.trace (suc follows.reached.after) (Go start))) (concat (end_lines content shows.places end next)) before closed
-          ∙ ap (append_known old) (sym quiet_is);
+      written = append_known-then old.written mid.written new.written (concat before_end) (concat at_end) before.written closed
+          ∙ ap (append_known old.written) (sym (concat-append before_end at_end) ∙ ap concat quiet_is);
+      puts = λ short. puts_same old new (before_end ++ at_end) quiet quiet_is (puts_both old mid new before_end at_end before (put (short_end short)));
     })
 
-    closing_front : AppendsFront mid new (concat (end_lines content shows.places end next)) → WritesFrontFrom content machinery shows start old new
-    closing_front front = inr (record {
+    closing_front : AppendsFront mid.written new.written (concat at_end) → (All IsShort at_end → PutsFirst mid new at_end) → WritesFrontFrom content machinery shows start old new
+    closing_front front put = inr (record {
       end = end;
       last = record { state = like.last; lines = follows.lines };
       run = ends_so;
-      front = AppendsFront-same (AppendsFront-second old (concat (lines_from machinery shows.trace (suc follows.reached.after) (Go start))) before front)
-          (concat (quiet_lines content machinery shows (suc follows.reached.after) start end like.last)) quiet_is;
+      front = AppendsFront-same (AppendsFront-second old.written (concat before_end) before.written front) (concat quiet) (ap concat (sym quiet_is) ∙ concat-append before_end at_end);
+      puts = λ short. first_same old new (before_end ++ at_end) quiet quiet_is (first_after old mid new before_end at_end before (put (short_end short)));
     })
 
   module _ (event : Bool) (one : Happening) (end : End) where
@@ -236,20 +255,20 @@ module _ (content : ModuleContent) (machinery : Machinery) (shows : Shows) (star
     finishing (Finishes over) is P case = case over cc
 
     pub end_more : (did : Did) → StepForeseen machinery shows.trace machine event one → machine_step machinery later ≡ machine_step machinery machine
-        → told (effect_of did next) ≡ told (machine_step machinery later) → ended_of did ≡ Some end → (mid new : Option (List ℕ)) → mid ≡ append_known now (step_text event one did)
-        → new ≡ append_known mid (concat (end_lines content shows.places end next)) → (ran : Ran)
+        → told (effect_of did next) ≡ told (machine_step machinery later) → ended_of did ≡ Some end → (mid new : SinkTold) → PutsLines now mid (lines_of_step event one did)
+        → new.written ≡ append_known mid.written (concat (end_lines content shows.places end next)) → (All IsShort (end_lines content shows.places end next) → PutsLines mid new (end_lines content shows.places end next)) → (ran : Ran)
         → ran ≡ record { end = end; func = record { 0 = next.state.running.func }; steps = next.state.steps; events = next.state.events; lines = count }
         → IsRunFrom content machinery shows start ran old new
-    end_more did foreseen same does is mid new added closed ran ran_is =
-        finishing did is (λ d. told (effect_of d next) ≡ told (machine_step machinery later) → mid ≡ append_known now (step_text event one d) → IsRunFrom content machinery shows start ran old new)
-        (λ over over_is does added. ended event one over end foreseen same does over_is mid new added closed ran ran_is) does added
+    end_more did foreseen same does is mid new added closed put ran ran_is =
+        finishing did is (λ d. told (effect_of d next) ≡ told (machine_step machinery later) → PutsLines now mid (lines_of_step event one d) → IsRunFrom content machinery shows start ran old new)
+        (λ over over_is does added. ended event one over end foreseen same does over_is mid new added closed put ran ran_is) does added
 
     pub end_front : (did : Did) → StepForeseen machinery shows.trace machine event one → machine_step machinery later ≡ machine_step machinery machine
-        → told (effect_of did next) ≡ told (machine_step machinery later) → ended_of did ≡ Some end → (mid new : Option (List ℕ)) → mid ≡ append_known now (step_text event one did)
-        → AppendsFront mid new (concat (end_lines content shows.places end next)) → WritesFrontFrom content machinery shows start old new
-    end_front did foreseen same does is mid new added front =
-        finishing did is (λ d. told (effect_of d next) ≡ told (machine_step machinery later) → mid ≡ append_known now (step_text event one d) → WritesFrontFrom content machinery shows start old new)
-        (λ over over_is does added. closing_front event one over end foreseen same does over_is mid new added front) does added
+        → told (effect_of did next) ≡ told (machine_step machinery later) → ended_of did ≡ Some end → (mid new : SinkTold) → PutsLines now mid (lines_of_step event one did)
+        → AppendsFront mid.written new.written (concat (end_lines content shows.places end next)) → (All IsShort (end_lines content shows.places end next) → PutsFirst mid new (end_lines content shows.places end next)) → WritesFrontFrom content machinery shows start old new
+    end_front did foreseen same does is mid new added front put =
+        finishing did is (λ d. told (effect_of d next) ≡ told (machine_step machinery later) → PutsLines now mid (lines_of_step event one d) → WritesFrontFrom content machinery shows start old new)
+        (λ over over_is does added. closing_front event one over end foreseen same does over_is mid new added front put) does added
 
 -- no object has been made
 pub none_settled : (stands : List Stand) → stands ≡ [] → AreSettled stands
@@ -261,18 +280,10 @@ none_settled stands none = rw none (record {
 })
 
 -- nothing was written
-pub front_none : (content : ModuleContent) (machinery : Machinery) (shows : Shows) (start : Progress Machine) (old : Option (List ℕ)) → WritesFrontFrom content machinery shows start old old
-front_none content machinery shows start old = inl (record { steps = 0; front = AppendsFront-nothing old [] })
+pub front_none : (content : ModuleContent) (machinery : Machinery) (shows : Shows) (start : Progress Machine) (old : SinkTold) → WritesFrontFrom content machinery shows start old old
+front_none content machinery shows start old = inl (record { steps = 0; puts = first_none old [] })
 
 -- ---- what the run gives
-
-ran_same : (ran : Ran) (func steps events lines : ℕ) → ran.func.0 ≡ func → ran.steps ≡ steps → ran.events ≡ events → ran.lines ≡ lines
-    → ran ≡ record { end = ran.end; func = record { 0 = func }; steps = steps; events = events; lines = lines }
-ran_same ran func steps events lines one two three four =
-    ap (λ (f : ℕ). record ran { func = record { 0 = f } }) one
-    ∙ (ap (λ (s : ℕ). record ran { func = record { 0 = func }; steps = s }) two
-    ∙ (ap (λ (e : ℕ). record ran { func = record { 0 = func }; steps = steps; events = e }) three
-    ∙ ap (λ (l : ℕ). record ran { func = record { 0 = func }; steps = steps; events = events; lines = l }) four))
 
 module _ (content : ModuleContent) (map : StackMap) (input : List ℤ) (plan : List PlanLine) (bound : ℕ) (shows : Shows) where
   abbrev machinery : Machinery
@@ -291,44 +302,74 @@ module _ (content : ModuleContent) (map : StackMap) (input : List ℤ) (plan : L
       is = ap (λ (shown : List (List ℕ)). concat (run_lines content machinery shows.places shows.trace input gives.run.within shown outcome.end gives.last.state)) (sym none);
     }
 
-  pub run_is : (old new : Option (List ℕ)) (ran : Ran) → IsRunFrom content machinery shows (machine_opening machinery input) ran old new → IsRunOver content map input plan bound shows ran old new
-  run_is old new ran run =
-      let outcome = machine_outcome machinery input run.run.within ran.end run.last in
-      let gives : MachineGives content map input plan bound outcome = record { last = run.last; run = run.run; is = refl } in
-      record {
-        outcome = outcome;
-        text = quiet_text outcome gives;
-        writes = writes_quiet outcome gives;
-        answer = ran_same ran run.last.state.state.running.func run.last.state.state.steps run.last.state.state.events (line_count run.last.lines) run.func run.steps run.events run.lines;
-        written = run.written;
-        untrapped = λ end. writes_whole outcome gives (closing_untrapped machinery ran.end run.last.state end);
-        unnamed = λ bare. writes_whole outcome gives (closing_nothing machinery ran.end run.last.state bare);
-      }
+  abbrev outcome_ended : (end : End) (last : Progress Machine) → Ends (machine_proceeds machinery) (machine_opening machinery input) end last → MachineOutcome
+  outcome_ended end last run = machine_outcome machinery input run.within end last
 
-  front_of : (old new : Option (List ℕ)) (outcome : MachineOutcome) (gives : MachineGives content map input plan bound outcome) → AppendsFront old new (quiet_text outcome gives)
-      → WritesFrontOver content map input plan bound shows old new
-  front_of old new outcome gives front = record {
-    outcome = outcome;
-    text = quiet_text outcome gives;
-    writes = writes_quiet outcome gives;
-    front = front;
-    untrapped = λ end. writes_whole outcome gives (closing_untrapped machinery outcome.end gives.last.state end);
-    unnamed = λ bare. writes_whole outcome gives (closing_nothing machinery outcome.end gives.last.state bare);
-  }
+  abbrev gives_ended : (end : End) (last : Progress Machine) (run : Ends (machine_proceeds machinery) (machine_opening machinery input) end last)
+      → MachineGives content map input plan bound (outcome_ended end last run)
+  gives_ended end last run = record { last = last; run = run; is = refl }
 
-  begun_front : (old new : Option (List ℕ)) → BeginsText machinery shows.trace (machine_opening machinery input) old new → WritesFrontOver content map input plan bound shows old new
-  begun_front old new begun =
-      let given = each_run_ends machinery input in
-      let first = written_first no_frames content map input plan bound shows.places shows.trace given.outcome (quiet_text given.outcome given.gives) (writes_quiet given.outcome given.gives) begun.steps in
-      front_of old new given.outcome given.gives (AppendsFront-same (AppendsFront-first begun.front first.more) (quiet_text given.outcome given.gives) first.is)
+  module _ (old new : SinkTold) where
+    pub run_is : (ran : Ran) → IsRunFrom content machinery shows (machine_opening machinery input) ran old new → IsRunOver content map input plan bound shows ran old.written new.written
+    run_is ran run =
+        let outcome = outcome_ended ran.end run.last run.run in
+        let gives = gives_ended ran.end run.last run.run in
+        record {
+          outcome = outcome;
+          text = quiet_text outcome gives;
+          writes = writes_quiet outcome gives;
+          answer = ran_is ran run.last.state.state.running.func run.last.state.state.steps run.last.state.state.events (line_count run.last.lines) run.func run.steps run.events run.lines;
+          written = run.written;
+          untrapped = λ end. writes_whole outcome gives (closing_untrapped machinery ran.end run.last.state end);
+          unnamed = λ bare. writes_whole outcome gives (closing_nothing machinery ran.end run.last.state bare);
+        }
 
-  whole_front : (old new : Option (List ℕ)) → BeginsWhole content machinery shows (machine_opening machinery input) old new → WritesFrontOver content map input plan bound shows old new
-  whole_front old new begun =
-      front_of old new (machine_outcome machinery input begun.run.within begun.end begun.last) (record { last = begun.last; run = begun.run; is = refl }) begun.front
+    pub puts_are : (ran : Ran) → IsRunFrom content machinery shows (machine_opening machinery input) ran old new → PutsRunOver content map input plan bound shows old new
+    puts_are ran run = record { outcome = outcome_ended ran.end run.last run.run; gives = gives_ended ran.end run.last run.run; puts = run.puts }
 
-  pub front_is : (old new : Option (List ℕ)) → WritesFrontFrom content machinery shows (machine_opening machinery input) old new → WritesFrontOver content map input plan bound shows old new
-  front_is old new (inl begun) = begun_front old new begun
-  front_is old new (inr begun) = whole_front old new begun
+    front_of : (outcome : MachineOutcome) (gives : MachineGives content map input plan bound outcome) → AppendsFront old.written new.written (quiet_text outcome gives)
+        → WritesFrontOver content map input plan bound shows old.written new.written
+    front_of outcome gives front = record {
+      outcome = outcome;
+      text = quiet_text outcome gives;
+      writes = writes_quiet outcome gives;
+      front = front;
+      untrapped = λ end. writes_whole outcome gives (closing_untrapped machinery outcome.end gives.last.state end);
+      unnamed = λ bare. writes_whole outcome gives (closing_nothing machinery outcome.end gives.last.state bare);
+    }
+
+    -- the lines of the first steps stand first among all
+    begun_puts : (begun : BeginsText machinery shows.trace (machine_opening machinery input) old new) → PutsFrontOver content map input plan bound shows old new
+    begun_puts begun =
+        let given = each_run_ends machinery input in
+        let start = Go (machine_opening machinery input) in
+        let did : Progress Machine → List (List ℕ) = λ progress. step_lines machinery shows.trace progress.state in
+        let front = traced_front did (machine_proceeds machinery) begun.steps given.gives.run.within start given.outcome.end given.gives.last given.gives.run.by in
+        let behind = end_lines content shows.places given.outcome.end given.gives.last.state in
+        let first = lines_from machinery shows.trace begun.steps start in
+        record {
+          outcome = given.outcome;
+          gives = given.gives;
+          puts = λ short.
+              first_same old new (first ++ (front.rest ++ behind)) (lines_over content map input plan bound shows given.outcome given.gives)
+              (sym (append_assoc first front.rest behind) ∙ ap (λ lines. lines ++ behind) (sym front.is))
+              (first_more old new first (front.rest ++ behind) begun.puts);
+        }
+
+    begun_front : BeginsText machinery shows.trace (machine_opening machinery input) old new → WritesFrontOver content map input plan bound shows old.written new.written
+    begun_front begun =
+        let given = each_run_ends machinery input in
+        let first = written_first no_frames content map input plan bound shows.places shows.trace given.outcome (quiet_text given.outcome given.gives) (writes_quiet given.outcome given.gives) begun.steps in
+        front_of given.outcome given.gives
+        (AppendsFront-same (AppendsFront-first (first_front old new (lines_from machinery shows.trace begun.steps (Go (machine_opening machinery input))) begun.puts) first.more) (quiet_text given.outcome given.gives) first.is)
+
+    pub front_is : WritesFrontFrom content machinery shows (machine_opening machinery input) old new → WritesFrontOver content map input plan bound shows old.written new.written
+    front_is (inl begun) = begun_front begun
+    front_is (inr begun) = front_of (outcome_ended begun.end begun.last begun.run) (gives_ended begun.end begun.last begun.run) begun.front
+
+    pub cut_is : WritesFrontFrom content machinery shows (machine_opening machinery input) old new → PutsFrontOver content map input plan bound shows old new
+    cut_is (inl begun) = begun_puts begun
+    cut_is (inr begun) = record { outcome = outcome_ended begun.end begun.last begun.run; gives = gives_ended begun.end begun.last begun.run; puts = begun.puts }
 
 -- ---- runs of verified modules over their own maps
 

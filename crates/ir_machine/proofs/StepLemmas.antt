@@ -1,20 +1,16 @@
 -- What the executor does at a line is what the machine does there.
-use Rattle.std.proofs.Common.{◌≡◌, ℕ, ◌+◌, ◌<◌, ◌≤◌, Bool, true, List, [], refl, sym, ap, subst, ◌∙◌, lt-ltb}
-use Rattle.std.proofs.lemmas.Bool.{le-ltb}
+use Rattle.std.proofs.Common.{◌≡◌, ℕ, Bool, true, List, [], sym, ap, subst, ◌∙◌}
 use Rattle.std.specs.Prelude.{Result}
 use Rattle.std.specs.Result.{IfOk}
 use Rattle.std.proofs.lemmas.Result.{IfOk-weaker}
 use Rattle.sp_ids.specs.declared.memory.Memory.{Memory}
-use Rattle.sp_ids.specs.declared.ends.End.TheVariants.{OutOfSteps}
 use Rattle.sp_ids.specs.declared.ends.Trap.{Trap}
 use Rattle.ir_ast.specs.declared.ops.Op.{Op}
 use Rattle.ir_ast.specs.Objects.{Datum, number}
-use Rattle.object_meaning.specs.Calls.{stepped}
 use Rattle.object_meaning.specs.Computing.{computed, with_number}
-use Rattle.object_meaning.specs.Effects.{Effect, ends}
+use Rattle.object_meaning.specs.Effects.{Effect}
 use Rattle.object_meaning.specs.Lines.{Line}
 use Rattle.object_meaning.specs.Registers.{operand}
-use Rattle.object_meaning.specs.States.{State, Setting}
 use Rattle.object_meaning.specs.Steps.{settled}
 use Rattle.machine_meaning.specs.Machines.{Machine, Machinery, lifted}
 use Rattle.machine_meaning.specs.MachineSteps.{machine_acts}

@@ -19,7 +19,6 @@ use Rattle.machine_frames.specs.declared.tasks.Task.{Task}
 use Rattle.machine_frames.specs.Frames.{frame_of, below_of, frames_of}
 use Rattle.ir_machine.specs.Executors.{waiting, kept, without_words}
 use Rattle.ir_machine.specs.Events.{IsLost, before_walk}
-use Rattle.list_laws.proofs.Places.{set_twice}
 
 pub waiting_at : (tasks : List (Option Task)) (task : ℕ) (found : Option (Option Task)) → slice_get tasks task ≡ found
     → slice_get (map waiting tasks) task ≡ option_map waiting found

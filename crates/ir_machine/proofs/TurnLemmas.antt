@@ -1,7 +1,7 @@
 -- How a run comes on: over quiet lines, and by steps that show nothing.
 use Rattle.std.proofs.Common.{◌≡◌, Bool, false, refl, sym, ap, subst}
 use Rattle.object_meaning.specs.Effects.{goes_on}
-use Rattle.tool_io.proofs.AppendLaws.{append_known-nil}
+use Rattle.piece_writer.proofs.LineLaws.{puts_none}
 use Rattle.ir_ast.specs.Modules.{ModuleContent}
 use Rattle.machine_meaning.specs.Machines.{Machine, Machinery}
 use Rattle.machine_meaning.specs.MachineSteps.{machine_step}
@@ -24,7 +24,7 @@ module _ (content : ModuleContent) (machinery : Machinery) where
   leads_step : (old new later : Machine) → LeadsOn machinery false old new → told (effect_of GoesOn later) ≡ told (machine_step machinery new) → LeadsOn machinery false old later
   leads_step old new later leads does = λ start one count first now follows.
       follows_more content machinery (record { places = false; trace = false }) start new new later count first now (leads start one count first now follows)
-      false one GoesOn refl refl does refl now (sym (append_known-nil now))
+      false one GoesOn refl refl does refl now (puts_none now)
 
   pub leads_fast : (old new later : Machine) → LeadsOn machinery false old new → machine_step machinery new ≡ goes_on later → LeadsOn machinery false old later
   leads_fast old new later leads goes = leads_step old new later leads (ap told (sym goes))

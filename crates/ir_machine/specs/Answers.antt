@@ -1,7 +1,8 @@
 -- What a run of the machine answers.
 use Rattle.std.specs.Prelude.{◌≡◌, ℕ, ◌+◌, ◌-◌, ◌^◌, min, ℤ, Bool, true, false, List, [], ◌∷◌, ◌++◌, Option, Some, None, ◌⊎◌}
-use Rattle.std.specs.List.{concat}
+use Rattle.std.specs.List.{All, concat}
 use Rattle.tool_io.specs.Sink.{append_known, AppendsFront}
+use Rattle.piece_writer.specs.LinePuts.{IsShort, PutsFirst, PutsLines, SinkTold}
 use Rattle.sp_ids.specs.declared.ends.End.{End}
 use Rattle.sp_ids.specs.declared.ends.End.TheVariants.{Trap}
 use Rattle.ir_ast.specs.Modules.{ModuleContent}
@@ -17,15 +18,17 @@ use Rattle.object_meaning.specs.Outcomes.{Outcome, whole_text}
 use Rattle.object_meaning.specs.TargetRuns.{TargetGives}
 use Rattle.object_meaning.specs.Texts.{function_name}
 use Rattle.machine_meaning.specs.Machines.{Machine, Machinery}
-use Rattle.machine_meaning.specs.MachineRuns.{MachineOutcome, machine_proceeds}
+use Rattle.machine_meaning.specs.Code.{machinery_of}
+use Rattle.machine_meaning.specs.MachineRuns.{MachineGives, MachineOutcome, machine_proceeds}
 use Rattle.machine_meaning.specs.MachineSteps.{machine_step}
 use Rattle.moves_unseen.specs.Statements.{IsSeen}
 use Rattle.tool_report.specs.Closings.{closing_line}
-use Rattle.run_texts.specs.RunTexts.{RunWrites, RunWritesQuiet, end_lines, lines_from}
+use Rattle.run_texts.specs.RunTexts.{RunWrites, RunWritesQuiet, end_lines, lines_from, run_lines}
+use Rattle.run_tasks.specs.declared.runs.Ran.{Ran}
+use Rattle.run_tasks.specs.Runs.{ran_of}
 use Rattle.run_traces.specs.declared.happenings.Happening.{Happening}
 use Rattle.ir_machine.specs.Executors.{effect_of, told}
 use Rattle.ir_machine.specs.Traces.{StepForeseen, did_lose, shown_lines}
-use Rattle.ir_machine.specs.declared.run.Ran.{Ran}
 use Rattle.ir_machine.specs.declared.run.Shows.{Shows}
 use Rattle.ir_machine.specs.declared.run.SureFault.{SureFault}
 use Rattle.ir_machine.specs.declared.run.SureFault.TheVariants as faults
@@ -34,15 +37,6 @@ use Rattle.run_traces.specs.declared.writing.Stopped.TheVariants as stops
 use Rattle.ir_machine.specs.declared.executor.Did.{Did}
 use Rattle.ir_machine.specs.declared.executor.Did.TheVariants.{GoesOn, Prints, Ends as Finishes}
 use Rattle.ir_machine.specs.declared.turns.Turn.{Turn}
-
-abbrev pub ran_of : MachineOutcome → Ran
-ran_of outcome = record {
-  end = outcome.end;
-  func = record { 0 = outcome.func };
-  steps = outcome.steps;
-  events = outcome.events;
-  lines = outcome.printed;
-}
 
 -- no record that a map has at a return address has "deopt" locations
 abbrev pub NamesNothing : StackMap → Type 0
@@ -59,7 +53,7 @@ pub record IsRunOver (content : ModuleContent) (map : StackMap) (input : List �
   pub outcome : MachineOutcome
   pub text : List ℕ
   pub writes : RunWritesQuiet content map input plan bound shows.places shows.trace outcome text
-  pub answer : ran ≡ ran_of outcome
+  pub answer : ran ≡ ran_of outcome.end outcome.func outcome.steps outcome.events outcome.printed
   pub written : new ≡ append_known old text
   pub untrapped : IsUntrapped ran.end → RunWrites content map input plan bound shows.places shows.trace outcome text
   pub unnamed : NamesNothing map → RunWrites content map input plan bound shows.places shows.trace outcome text
@@ -85,6 +79,37 @@ pub record WritesFront (content : ModuleContent) (bytes : List ℕ) (input : Lis
   pub is_map : IsMapOf bytes map
   pub front : WritesFrontOver content map input plan bound shows old new
 
+-- the lines of the machine's run over a map that gives this outcome, with places and trace or without, but for what waiting frames show
+abbrev pub lines_over : (content : ModuleContent) (map : StackMap) (input : List ℤ) (plan : List PlanLine) (bound : ℕ) (shows : Shows) (outcome : MachineOutcome)
+    → MachineGives content map input plan bound outcome → List (List ℕ)
+lines_over content map input plan bound shows outcome gives =
+    run_lines content (machinery_of content map plan bound) shows.places shows.trace input gives.run.within [] outcome.end gives.last.state
+
+-- each of these lines was put by one call, where none has more than 8,192 bytes
+pub record PutsRunOver (content : ModuleContent) (map : StackMap) (input : List ℤ) (plan : List PlanLine) (bound : ℕ) (shows : Shows) (old new : SinkTold) : Type 0 where
+  pub outcome : MachineOutcome
+  pub gives : MachineGives content map input plan bound outcome
+  pub puts : All IsShort (lines_over content map input plan bound shows outcome gives)
+      → PutsLines old new (lines_over content map input plan bound shows outcome gives)
+
+-- the first ones of them were put so, and at most a front of the next one was written
+pub record PutsFrontOver (content : ModuleContent) (map : StackMap) (input : List ℤ) (plan : List PlanLine) (bound : ℕ) (shows : Shows) (old new : SinkTold) : Type 0 where
+  pub outcome : MachineOutcome
+  pub gives : MachineGives content map input plan bound outcome
+  pub puts : All IsShort (lines_over content map input plan bound shows outcome gives)
+      → PutsFirst old new (lines_over content map input plan bound shows outcome gives)
+
+-- the same of the map that these bytes are
+pub record PutsRun (content : ModuleContent) (bytes : List ℕ) (input : List ℤ) (plan : List PlanLine) (bound : ℕ) (shows : Shows) (old new : SinkTold) : Type 0 where
+  pub map : StackMap
+  pub is_map : IsMapOf bytes map
+  pub over : PutsRunOver content map input plan bound shows old new
+
+pub record PutsFront (content : ModuleContent) (bytes : List ℕ) (input : List ℤ) (plan : List PlanLine) (bound : ℕ) (shows : Shows) (old new : SinkTold) : Type 0 where
+  pub map : StackMap
+  pub is_map : IsMapOf bytes map
+  pub front : PutsFrontOver content map input plan bound shows old new
+
 -- a run of a verified module over its own map: what the target meaning gives on objects that never move, the machine gives, and its
 -- whole text was written; where nothing else is shown, this is the meaning's lines and the line that closes the run
 pub record IsRunUnseen (content : ModuleContent) (input : List ℤ) (plan : List PlanLine) (bound : ℕ) (shows : Shows) (ran : Ran) (old new : Option (List ℕ)) : Type 0 where
@@ -92,7 +117,7 @@ pub record IsRunUnseen (content : ModuleContent) (input : List ℤ) (plan : List
   pub gives : TargetGives content input (go plan) bound outcome
   pub machine : MachineOutcome
   pub seen : IsSeen content outcome machine
-  pub answer : ran ≡ ran_of machine
+  pub answer : ran ≡ ran_of machine.end machine.func machine.steps machine.events machine.printed
   pub text : List ℕ
   pub writes : RunWrites content (map_of content) input plan bound shows.places shows.trace machine text
   pub written : new ≡ append_known old text
@@ -107,46 +132,51 @@ quiet_lines content machinery shows within start end last =
     lines_from machinery shows.trace within (Go start) ++ end_lines content shows.places end last
 
 -- the answer is that of the run from a state on, and its text was written
-pub record IsRunFrom (content : ModuleContent) (machinery : Machinery) (shows : Shows) (start : Progress Machine) (ran : Ran) (old new : Option (List ℕ)) : Type 0 where
+pub record IsRunFrom (content : ModuleContent) (machinery : Machinery) (shows : Shows) (start : Progress Machine) (ran : Ran) (old new : SinkTold) : Type 0 where
   pub last : Progress Machine
   pub run : Ends (machine_proceeds machinery) start ran.end last
   pub func : ran.func.0 ≡ last.state.state.running.func
   pub steps : ran.steps ≡ last.state.state.steps
   pub events : ran.events ≡ last.state.state.events
   pub lines : ran.lines ≡ line_count last.lines
-  pub written : new ≡ append_known old (concat (quiet_lines content machinery shows run.within start ran.end last.state))
+  pub written : new.written ≡ append_known old.written (concat (quiet_lines content machinery shows run.within start ran.end last.state))
+  pub puts : All IsShort (quiet_lines content machinery shows run.within start ran.end last.state)
+      → PutsLines old new (quiet_lines content machinery shows run.within start ran.end last.state)
 
--- a sink grew by a front of what the first so many steps of a run write
-pub record BeginsText (machinery : Machinery) (trace : Bool) (start : Progress Machine) (old new : Option (List ℕ)) : Type 0 where
+-- the first ones of the lines that the first so many steps of a run write were put
+pub record BeginsText (machinery : Machinery) (trace : Bool) (start : Progress Machine) (old new : SinkTold) : Type 0 where
   pub steps : ℕ
-  pub front : AppendsFront old new (concat (lines_from machinery trace steps (Go start)))
+  pub puts : PutsFirst old new (lines_from machinery trace steps (Go start))
 
--- or of the whole text of a run
-pub record BeginsWhole (content : ModuleContent) (machinery : Machinery) (shows : Shows) (start : Progress Machine) (old new : Option (List ℕ)) : Type 0 where
+-- or of all lines of a run
+pub record BeginsWhole (content : ModuleContent) (machinery : Machinery) (shows : Shows) (start : Progress Machine) (old new : SinkTold) : Type 0 where
   pub end : End
   pub last : Progress Machine
   pub run : Ends (machine_proceeds machinery) start end last
-  pub front : AppendsFront old new (concat (quiet_lines content machinery shows run.within start end last.state))
+  pub front : AppendsFront old.written new.written (concat (quiet_lines content machinery shows run.within start end last.state))
+  pub puts : All IsShort (quiet_lines content machinery shows run.within start end last.state)
+      → PutsFirst old new (quiet_lines content machinery shows run.within start end last.state)
 
-abbrev pub WritesFrontFrom : ModuleContent → Machinery → Shows → Progress Machine → Option (List ℕ) → Option (List ℕ) → Type 0
+abbrev pub WritesFrontFrom : ModuleContent → Machinery → Shows → Progress Machine → SinkTold → SinkTold → Type 0
 WritesFrontFrom content machinery shows start old new =
     BeginsText machinery shows.trace start old new ⊎ BeginsWhole content machinery shows start old new
 
 abbrev pub unprinted : Machine → Progress Machine
 unprinted machine = record { state = machine; lines = [] }
 
--- a run from a start has come to this state after so many steps, with so many lines printed, and what they write was written
-pub record Follows (machinery : Machinery) (trace : Bool) (start : Progress Machine) (machine : Machine) (count : ℕ) (old now : Option (List ℕ)) : Type 0 where
+-- a run from a start has come to this state after so many steps, with so many lines printed, and each line that they write was put by
+-- one call
+pub record Follows (machinery : Machinery) (trace : Bool) (start : Progress Machine) (machine : Machine) (count : ℕ) (old now : SinkTold) : Type 0 where
   pub lines : List (List ℕ)
   pub reached : Reaches {E = End} (machine_proceeds machinery) start (record { state = machine; lines = lines })
   pub counted : count ≡ line_count lines
-  pub written : now ≡ append_known old (concat (lines_from machinery trace reached.after (Go start)))
+  pub puts : PutsLines old now (lines_from machinery trace reached.after (Go start))
   pub settled : AreSettled machine.heap.stands
 
 -- a run that has come to one state comes to the other, and writes nothing on the way
 abbrev pub LeadsOn : Machinery → Bool → Machine → Machine → Type 0
 LeadsOn machinery trace old new =
-    (start : Progress Machine) (one : Happening) (count : ℕ) (first now : Option (List ℕ))
+    (start : Progress Machine) (one : Happening) (count : ℕ) (first now : SinkTold)
     → Follows machinery trace start old count first now → Follows machinery trace start new count first now
 
 -- ---- steps
@@ -179,8 +209,8 @@ printed_of (Prints word) = printed_line word ∷ []
 printed_of _ = []
 
 -- what a step writes that was foreseen so and did this
-abbrev pub step_text : Bool → Happening → Did → List ℕ
-step_text event one did = concat (shown_lines event (did_lose did) one ++ printed_of did)
+abbrev pub lines_of_step : Bool → Happening → Did → List (List ℕ)
+lines_of_step event one did = shown_lines event (did_lose did) one ++ printed_of did
 
 -- the count of printed lines after it
 abbrev pub counted_by : Did → ℕ → ℕ

@@ -10,4 +10,4 @@ mod run;
 mod traces;
 mod turns;
 
-pub use run::{Ran, RunFault, Shows, SureFault, run_any, run_verified};
+pub use run::{RunFault, Shows, SureFault, run_any, run_verified};

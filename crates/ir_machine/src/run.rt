@@ -5,6 +5,7 @@ ghost use Rattle.std.specs.List.{All, concat, position};
 ghost use Rattle.std.specs.Str.{bytes_eq};
 ghost use Rattle.tool_io.specs.Counts.{Rose};
 ghost use Rattle.tool_io.specs.Sink.{append_known, AppendsFront};
+ghost use Rattle.piece_writer.specs.LinePuts.{IsShort, PutsFirst, PutsLines, told_by};
 ghost use Rattle.map_bytes.specs.declared.rules.MapFault.{MapFault};
 ghost use Rattle.map_bytes.specs.Faults.{IsFirstFault};
 ghost use Rattle.ir_ast.specs.Bundles.{HasNoBundle};
@@ -18,7 +19,7 @@ ghost use Rattle.machine_meaning.specs.MachineRuns.{machine_opening};
 ghost use Rattle.run_texts.specs.RunTexts.{end_lines};
 ghost use Rattle.ir_machine.specs.Executors.{machinery, seen};
 ghost use Rattle.ir_machine.specs.Traces.{did_lose, shown_lines};
-ghost use Rattle.ir_machine.specs.Answers.{IsRun, IsRunFrom, IsRunOver, IsRunUnseen, WritesFront, WritesFrontFrom, WritesFrontOver, counted_by, ended_of, step_text, unprinted};
+ghost use Rattle.ir_machine.specs.Answers.{IsRun, IsRunFrom, IsRunOver, IsRunUnseen, PutsFront, PutsFrontOver, PutsRun, PutsRunOver, WritesFront, WritesFrontFrom, WritesFrontOver, counted_by, ended_of, lines_of_step, unprinted};
 
 use crate::executor::{Did, Executor, Program};
 use arrayvec::ArrayVec;
@@ -29,6 +30,7 @@ use machine_frames::{Code, Task};
 use map_bytes::MapFault;
 use move_plan::Plan;
 use moving_heap::Heap;
+use run_tasks::Ran;
 use run_traces::{Happening, Stopped, write_happening, write_places};
 use sp_ids::{End, FuncId, Memory, sign};
 use stackmap_view::{MapIndex, MapView};
@@ -36,17 +38,6 @@ use statepoint_verify::Verified;
 use std::alloc::Global;
 use tool_io::{Failed, Sink};
 use tool_report::closing;
-
-/// How a run ended: its end, the function that ran last, the steps and events, and the number of lines that `print_i64`
-/// wrote. Events and lines stand still at 2^64 - 1.
-#[derive(Clone, Copy, Debug, PartialEq, Eq)]
-pub struct Ran {
-    pub end: End,
-    pub func: FuncId,
-    pub steps: u64,
-    pub events: u64,
-    pub lines: u64,
-}
 
 /// What is shown of a run besides what it prints and the line that closes it: where its objects stand in the end, and what its events
 /// are and move.
@@ -115,7 +106,8 @@ impl From<Stopped> for SureFault {
 /// the run, and the places of its objects, where `shows` has them, each line by one `put`.
 ///
 /// `BadMap` comes exactly where the bytes are no stack map, with their first fault, before anything is written. `Write` comes
-/// only where the sink counted a fault. After it, and after `Memory`, a front of the run's text was written.
+/// only where the sink counted a fault. After it, and after `Memory`, a front of the run's text was written. Each line is put by one
+/// call, where none has more than 8,192 bytes.
 pub fn run_any<O: Sink>(
     alloc: Global,
     module: &Module,
@@ -130,6 +122,9 @@ pub fn run_any<O: Sink>(
     ensures bad { (fault : MapFault) → result ≡ Err (RunFault.BadMap fault) → IsFirstFault map.now fault × (O.written out.new ≡ O.written out.old) }
     ensures front { IsErrOf result RunFault.Memory → WritesFront «module».now.content map.now input.now plan.now steps shows (O.written out.old) (O.written out.new) }
     ensures write { IsErrOf result RunFault.Write → WritesFront «module».now.content map.now input.now plan.now steps shows (O.written out.old) (O.written out.new) }
+    ensures by_one_put { OnOk result (PutsRun «module».now.content map.now input.now plan.now steps shows (told_by O.written O.puts out.old) (told_by O.written O.puts out.new)) }
+    ensures cut { IsErrOf result RunFault.Memory → PutsFront «module».now.content map.now input.now plan.now steps shows (told_by O.written O.puts out.old) (told_by O.written O.puts out.new) }
+    ensures cut_write { IsErrOf result RunFault.Write → PutsFront «module».now.content map.now input.now plan.now steps shows (told_by O.written O.puts out.old) (told_by O.written O.puts out.new) }
     ensures failed { IsErrOf result RunFault.Write → Rose (O.faults out.old) (O.faults out.new) }
     ensures count { O.faults out.old ≤ O.faults out.new }
 {
@@ -161,6 +156,8 @@ pub fn run_verified<O: Sink>(
     ensures seen { All HasNoBundle verified.now.content.funcs → stack_map map.now ≡ map_of verified.now.content
         → IfOk result (λ ran. IsRunUnseen verified.now.content input.now plan.now steps shows ran (O.written out.old) (O.written out.new)) }
     ensures front { OnErr result (WritesFrontOver verified.now.content (stack_map map.now) input.now plan.now steps shows (O.written out.old) (O.written out.new)) }
+    ensures by_one_put { OnOk result (PutsRunOver verified.now.content (stack_map map.now) input.now plan.now steps shows (told_by O.written O.puts out.old) (told_by O.written O.puts out.new)) }
+    ensures cut { OnErr result (PutsFrontOver verified.now.content (stack_map map.now) input.now plan.now steps shows (told_by O.written O.puts out.old) (told_by O.written O.puts out.new)) }
     ensures failed { IsErrOf result SureFault.Write → Rose (O.faults out.old) (O.faults out.new) }
     ensures count { O.faults out.old ≤ O.faults out.new }
 {
@@ -181,6 +178,8 @@ fn run_over<O: Sink>(
 ) -> Result<Ran, SureFault>
     ensures ran { IfOk result (λ ran. IsRunOver «module».now.content (stack_map view.entry) input.now plan.now bound shows ran (O.written out.old) (O.written out.new)) }
     ensures front { OnErr result (WritesFrontOver «module».now.content (stack_map view.entry) input.now plan.now bound shows (O.written out.old) (O.written out.new)) }
+    ensures by_one_put { OnOk result (PutsRunOver «module».now.content (stack_map view.entry) input.now plan.now bound shows (told_by O.written O.puts out.old) (told_by O.written O.puts out.new)) }
+    ensures cut { OnErr result (PutsFrontOver «module».now.content (stack_map view.entry) input.now plan.now bound shows (told_by O.written O.puts out.old) (told_by O.written O.puts out.new)) }
     ensures failed { IsErrOf result SureFault.Write → Rose (O.faults out.old) (O.faults out.new) }
     ensures count { O.faults out.old ≤ O.faults out.new }
 {
@@ -250,8 +249,8 @@ fn run<'m, O: Sink>(
     out: &mut O,
 ) -> Result<Ran, SureFault>
     requires settled { AreSettled executor.old.heap.stands }
-    ensures ran { IfOk result (λ ran. IsRunFrom program.now.code (machinery program.now) shows (unprinted (seen executor.old)) ran (O.written out.old) (O.written out.new)) }
-    ensures front { OnErr result (WritesFrontFrom program.now.code (machinery program.now) shows (unprinted (seen executor.old)) (O.written out.old) (O.written out.new)) }
+    ensures ran { IfOk result (λ ran. IsRunFrom program.now.code (machinery program.now) shows (unprinted (seen executor.old)) ran (told_by O.written O.puts out.old) (told_by O.written O.puts out.new)) }
+    ensures front { OnErr result (WritesFrontFrom program.now.code (machinery program.now) shows (unprinted (seen executor.old)) (told_by O.written O.puts out.old) (told_by O.written O.puts out.new)) }
     ensures failed { IsErrOf result SureFault.Write → Rose (O.faults out.old) (O.faults out.new) }
     ensures count { O.faults out.old ≤ O.faults out.new }
 {
@@ -296,8 +295,8 @@ fn write_step<O: Sink>(
     did: Did,
     out: &mut O,
 ) -> Result<(), Failed>
-    ensures ok { OnOk result (O.written out.new ≡ append_known (O.written out.old) (step_text event happening.now did)) }
-    ensures err { OnErr result (AppendsFront (O.written out.old) (O.written out.new) (step_text event happening.now did)) }
+    ensures ok { OnOk result (PutsLines (told_by O.written O.puts out.old) (told_by O.written O.puts out.new) (lines_of_step event happening.now did)) }
+    ensures err { OnErr result (PutsFirst (told_by O.written O.puts out.old) (told_by O.written O.puts out.new) (lines_of_step event happening.now did)) }
     ensures failed { OnErr result (Rose (O.faults out.old) (O.faults out.new)) }
     ensures count { O.faults out.old ≤ O.faults out.new }
 {
@@ -314,8 +313,8 @@ fn write_event<O: Sink>(
     did: Did,
     out: &mut O,
 ) -> Result<(), Failed>
-    ensures ok { OnOk result (O.written out.new ≡ append_known (O.written out.old) (concat (shown_lines event (did_lose did) happening.now))) }
-    ensures err { OnErr result (AppendsFront (O.written out.old) (O.written out.new) (concat (shown_lines event (did_lose did) happening.now))) }
+    ensures ok { OnOk result (PutsLines (told_by O.written O.puts out.old) (told_by O.written O.puts out.new) (shown_lines event (did_lose did) happening.now)) }
+    ensures err { OnErr result (PutsFirst (told_by O.written O.puts out.old) (told_by O.written O.puts out.new) (shown_lines event (did_lose did) happening.now)) }
     ensures failed { OnErr result (Rose (O.faults out.old) (O.faults out.new)) }
     ensures count { O.faults out.old ≤ O.faults out.new }
 {
@@ -344,6 +343,8 @@ fn write_end<O: Sink>(
     requires settled { AreSettled executor.now.heap.stands }
     ensures ok { OnOk result (O.written out.new ≡ append_known (O.written out.old) (concat (end_lines program.now.code places end (seen executor.now)))) }
     ensures err { OnErr result (AppendsFront (O.written out.old) (O.written out.new) (concat (end_lines program.now.code places end (seen executor.now)))) }
+    ensures by_one_put { All IsShort (end_lines program.now.code places end (seen executor.now)) → OnOk result (PutsLines (told_by O.written O.puts out.old) (told_by O.written O.puts out.new) (end_lines program.now.code places end (seen executor.now))) }
+    ensures cut { All IsShort (end_lines program.now.code places end (seen executor.now)) → OnErr result (PutsFirst (told_by O.written O.puts out.old) (told_by O.written O.puts out.new) (end_lines program.now.code places end (seen executor.now))) }
     ensures failed { IsErrOf result SureFault.Write → Rose (O.faults out.old) (O.faults out.new) }
     ensures count { O.faults out.old ≤ O.faults out.new }
 {

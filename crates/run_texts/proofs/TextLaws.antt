@@ -1,7 +1,6 @@
 -- The laws of the texts of runs.
 use Rattle.std.proofs.Common.{◌≡◌, ℕ, ℤ, zero, suc, false, List, [], ◌∷◌, ◌++◌, reverse, refl, sym, ap, ◌∙◌, append_assoc, append-nil}
 use Rattle.std.specs.List.{concat}
-use Rattle.std.proofs.lemmas.List.{reverse-append}
 use Rattle.std.proofs.lemmas.List.Folds.{concat-append}
 use Rattle.sp_ids.specs.declared.ends.End.{End}
 use Rattle.ir_ast.specs.Modules.{ModuleContent}
@@ -32,12 +31,12 @@ traced_last did step (suc count) next =
     ap (λ rest. done_at did next ++ rest) (traced_last did step count (advance step next))
     ∙ sym (append_assoc (done_at did next) (traced did step count (advance step next)) (done_at did (goes step count (advance step next))))
 
-record Front {T : Type 0} (all front : List T) : Type 0 where
-  rest : List T
-  is : all ≡ front ++ rest
+pub record Front {T : Type 0} (all front : List T) : Type 0 where
+  pub rest : List T
+  pub is : all ≡ front ++ rest
 
 -- more steps than lead to the end do nothing more
-traced_front : {E A T : Type 0} (did : A → List T) (step : A → Next E A) (count more : ℕ) (next : Next E A) (end : E) (last : A)
+pub traced_front : {E A T : Type 0} (did : A → List T) (step : A → Next E A) (count more : ℕ) (next : Next E A) (end : E) (last : A)
     → goes step more next ≡ Over end last → Front (traced did step more next) (traced did step count next)
 traced_front did step zero more next end last is = record { rest = traced did step more next; is = refl }
 traced_front did step (suc count) zero next end last is =

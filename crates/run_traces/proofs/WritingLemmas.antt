@@ -8,6 +8,8 @@ use Rattle.std.proofs.lemmas.List.Folds.{concat-append}
 use Rattle.std.proofs.lemmas.Option.{get_or_from_slice_get, slice_get_within}
 use Rattle.tool_io.specs.Sink.{append_known, AppendsFront}
 use Rattle.tool_io.proofs.AppendLaws.{append_known-then, AppendsFront-among, AppendsFront-first}
+use Rattle.piece_writer.specs.LinePuts.{PutsFirst, PutsLines, SinkTold}
+use Rattle.piece_writer.proofs.LineLaws.{first_after, first_more, puts_both, puts_same}
 use Rattle.ir_ast.specs.Layouts.{ObjectLayout}
 use Rattle.moving_heap.specs.declared.stands.Moved.{Moved}
 use Rattle.moving_heap.specs.declared.stands.Stand.{Stand}
@@ -38,6 +40,9 @@ module _ {X Y : Type 0} (line : Y → List ℕ) (of : X → Y) (xs : List X) (i 
       ∙ ap (λ l. concat (map line l)) (map-append of (take i xs) (x ∷ drop (i + 1) xs))
       ∙ ap concat (map-append line (map of (take i xs)) (of x ∷ map of (drop (i + 1) xs)))
       ∙ concat-append (map line (map of (take i xs))) (line (of x) ∷ map line (map of (drop (i + 1) xs)))
+
+  pub lines_next : map line (map of (drop i xs)) ≡ (line (of x) ∷ []) ++ map line (map of (drop (i + 1) xs))
+  lines_next = ap (λ l. map line (map of l)) (drop_at xs i x is)
 
   pub lines_more : (old now new : Option (List ℕ)) → now ≡ append_known old (concat (map line (map of (take i xs)))) → new ≡ append_known now (line (of x))
       → new ≡ append_known old (concat (map line (map of (take (i + 1) xs))))
@@ -83,6 +88,30 @@ no_contents : (layouts : List ObjectLayout) (stands : List Stand) → place_line
 no_contents layouts [] = refl
 no_contents layouts (stand ∷ stands) = refl
 
+module _ (layouts : List ObjectLayout) (stands : List Stand) (contents : List Content) (place : ℕ) where
+  pub none_left : drop place stands ≡ [] → place_lines layouts (drop place stands) (drop place contents) ≡ []
+  none_left none = ap (λ l. place_lines layouts l (drop place contents)) none
+
+  pub none_filled : drop place contents ≡ [] → place_lines layouts (drop place stands) (drop place contents) ≡ []
+  none_filled none = ap (λ l. place_lines layouts (drop place stands) l) none ∙ no_contents layouts (drop place stands)
+
+  module _ (numbered : IsNumbered stands) (address : ℕ) (stand : Found (λ (stand : Stand). stand.address) stands place address) (layout count : ℕ)
+      (content : Found shape_of contents place (layout, count)) where
+    line_is : place_line stand.x.number (layout_name layouts content.x.layout) content.x.count stand.x.address ≡ place_line (place + 1) (layout_name layouts layout) count address
+    line_is =
+        let number : stand.x.number ≡ place + 1 =
+        sym (ap (λ (s : Stand). s.number) (get_or_from_slice_get stands place stand.x stand.x stand.is)) ∙ numbered.at place stand.x (slice_get_within stands place stand.x stand.is) in
+        ap (λ (n : ℕ). place_line n (layout_name layouts content.x.layout) content.x.count stand.x.address) number
+        ∙ ap (λ (s : ℕ × ℕ). place_line (place + 1) (layout_name layouts s.0) s.1 stand.x.address) content.value
+        ∙ ap (place_line (place + 1) (layout_name layouts layout) count) stand.value
+
+    pub places_next : place_lines layouts (drop place stands) (drop place contents)
+        ≡ (place_line (place + 1) (layout_name layouts layout) count address ∷ []) ++ place_lines layouts (drop (place + 1) stands) (drop (place + 1) contents)
+    places_next =
+        ap (λ (l : List Stand). place_lines layouts l (drop place contents)) (drop_at stands place stand.x stand.is)
+        ∙ ap (λ (l : List Content). place_lines layouts (stand.x ∷ drop (place + 1) stands) l) (drop_at contents place content.x content.is)
+        ∙ ap (λ (line : List ℕ). line ∷ place_lines layouts (drop (place + 1) stands) (drop (place + 1) contents)) line_is
+
 module _ (layouts : List ObjectLayout) (stands : List Stand) (contents : List Content) (place : ℕ) (old now new : Option (List ℕ)) (so_far : PlacesSoFar layouts stands contents place old now) where
   whole_without : concat (place_lines layouts (drop place stands) (drop place contents)) ≡ [] → now ≡ append_known old (concat (place_lines layouts stands contents))
   whole_without none =
@@ -96,18 +125,10 @@ module _ (layouts : List ObjectLayout) (stands : List Stand) (contents : List Co
 
   module _ (numbered : IsNumbered stands) (address : ℕ) (stand : Found (λ (stand : Stand). stand.address) stands place address) (layout count : ℕ)
       (content : Found shape_of contents place (layout, count)) where
-    line_is : place_line stand.x.number (layout_name layouts content.x.layout) content.x.count stand.x.address ≡ place_line (place + 1) (layout_name layouts layout) count address
-    line_is =
-        let number : stand.x.number ≡ place + 1 =
-        sym (ap (λ (s : Stand). s.number) (get_or_from_slice_get stands place stand.x stand.x stand.is)) ∙ numbered.at place stand.x (slice_get_within stands place stand.x stand.is) in
-        ap (λ (n : ℕ). place_line n (layout_name layouts content.x.layout) content.x.count stand.x.address) number
-        ∙ ap (λ (s : ℕ × ℕ). place_line (place + 1) (layout_name layouts s.0) s.1 stand.x.address) content.value
-        ∙ ap (place_line (place + 1) (layout_name layouts layout) count) stand.value
-
     rest_is : so_far.first ++ (place_line (place + 1) (layout_name layouts layout) count address ++ concat (place_lines layouts (drop (place + 1) stands) (drop (place + 1) contents)))
         ≡ concat (place_lines layouts stands contents)
     rest_is =
-        ap (λ (line : List ℕ). so_far.first ++ (line ++ concat (place_lines layouts (drop (place + 1) stands) (drop (place + 1) contents)))) (sym line_is)
+        ap (λ (line : List ℕ). so_far.first ++ (line ++ concat (place_lines layouts (drop (place + 1) stands) (drop (place + 1) contents)))) (sym (line_is layouts stands contents place numbered address stand layout count content))
         ∙ ap (λ (l : List Content). so_far.first ++ concat (place_lines layouts (stand.x ∷ drop (place + 1) stands) l)) (sym (drop_at contents place content.x content.is))
         ∙ ap (λ (l : List Stand). so_far.first ++ concat (place_lines layouts l (drop place contents))) (sym (drop_at stands place stand.x stand.is))
         ∙ so_far.rest
@@ -178,3 +199,19 @@ module _ (line : List ℕ) (moves slots : List (List ℕ)) (old one two new : Op
 
     pub slots_all : new ≡ append_known two (concat slots) → new ≡ append_known old (line ++ concat (moves ++ slots))
     slots_all added = append_known-then old two new (line ++ concat moves) (concat slots) both added ∙ ap (append_known old) (sym split)
+
+module _ (line : List ℕ) (moves slots : List (List ℕ)) (old one two new : SinkTold) (first : PutsLines old one (line ∷ [])) where
+  pub moves_cut : PutsFirst one new moves → PutsFirst old new (line ∷ (moves ++ slots))
+  moves_cut cut = first_after old one new (line ∷ []) (moves ++ slots) first (first_more one new moves slots cut)
+
+  module _ (second : PutsLines one two moves) where
+    pub moves_put : PutsLines old two (line ∷ (moves ++ []))
+    moves_put =
+        puts_same old two (line ∷ moves) (line ∷ (moves ++ [])) (ap (λ (more : List (List ℕ)). line ∷ more) (sym (append-nil moves)))
+        (puts_both old one two (line ∷ []) moves first second)
+
+    pub slots_cut : PutsFirst two new slots → PutsFirst old new (line ∷ (moves ++ slots))
+    slots_cut cut = first_after old one new (line ∷ []) (moves ++ slots) first (first_after one two new moves slots second cut)
+
+    pub slots_put : PutsLines two new slots → PutsLines old new (line ∷ (moves ++ slots))
+    slots_put third = puts_both old one new (line ∷ []) (moves ++ slots) first (puts_both one two new moves slots second third)

@@ -1,9 +1,10 @@
 //! Lines of events and of places, each put by itself.
 
 ghost use Rattle.std.specs.Prelude.{◌≡◌, ◌≤◌, map, OnOk, OnErr, IsErrOf};
-ghost use Rattle.std.specs.List.{concat};
+ghost use Rattle.std.specs.List.{All, concat};
 ghost use Rattle.tool_io.specs.Counts.{Rose};
 ghost use Rattle.tool_io.specs.Sink.{append_known, AppendsFront};
+ghost use Rattle.piece_writer.specs.LinePuts.{IsShort, PutsFirst, PutsLines, told_by};
 ghost use Rattle.moving_heap.specs.Settled.{IsNumbered};
 ghost use Rattle.run_texts.specs.RunTexts.{layout_name, line_of_move, line_of_slot, place_lines};
 ghost use Rattle.run_traces.specs.Changes.{change_of};
@@ -19,7 +20,8 @@ use tool_io::{Failed, Sink};
 use tool_report::{event_line, moved_line, place_line, slot_line};
 
 /// Puts the lines of an event: its own, one for each object that moves, and one for each slot, which are left out where the walk
-/// lost a frame. After `Failed`, which comes only where the sink's count of faults rose, a front of the lines was added.
+/// lost a frame; each line by one call. After `Failed`, which comes only where the sink's count of faults rose, a front of the
+/// lines was added.
 pub fn write_happening<O: Sink>(
     happening: &Happening,
     lost: bool,
@@ -27,6 +29,8 @@ pub fn write_happening<O: Sink>(
 ) -> Result<(), Failed>
     ensures ok { OnOk result (O.written out.new ≡ append_known (O.written out.old) (concat (happened_lines lost happening.now))) }
     ensures err { OnErr result (AppendsFront (O.written out.old) (O.written out.new) (concat (happened_lines lost happening.now))) }
+    ensures by_one_put { OnOk result (PutsLines (told_by O.written O.puts out.old) (told_by O.written O.puts out.new) (happened_lines lost happening.now)) }
+    ensures cut { OnErr result (PutsFirst (told_by O.written O.puts out.old) (told_by O.written O.puts out.new) (happened_lines lost happening.now)) }
     ensures failed { OnErr result (Rose (O.faults out.old) (O.faults out.new)) }
     ensures count { O.faults out.old ≤ O.faults out.new }
 {
@@ -41,6 +45,8 @@ pub fn write_happening<O: Sink>(
 fn write_moves<O: Sink>(moves: &[ObjectMove], out: &mut O) -> Result<(), Failed>
     ensures ok { OnOk result (O.written out.new ≡ append_known (O.written out.old) (concat (map line_of_move (map move_of moves.now)))) }
     ensures err { OnErr result (AppendsFront (O.written out.old) (O.written out.new) (concat (map line_of_move (map move_of moves.now)))) }
+    ensures by_one_put { OnOk result (PutsLines (told_by O.written O.puts out.old) (told_by O.written O.puts out.new) (map line_of_move (map move_of moves.now))) }
+    ensures cut { OnErr result (PutsFirst (told_by O.written O.puts out.old) (told_by O.written O.puts out.new) (map line_of_move (map move_of moves.now))) }
     ensures failed { OnErr result (Rose (O.faults out.old) (O.faults out.new)) }
     ensures count { O.faults out.old ≤ O.faults out.new }
 {
@@ -53,6 +59,8 @@ fn write_moves<O: Sink>(moves: &[ObjectMove], out: &mut O) -> Result<(), Failed>
 fn write_slots<O: Sink>(slots: &[SlotChange], out: &mut O) -> Result<(), Failed>
     ensures ok { OnOk result (O.written out.new ≡ append_known (O.written out.old) (concat (map line_of_slot (map change_of slots.now)))) }
     ensures err { OnErr result (AppendsFront (O.written out.old) (O.written out.new) (concat (map line_of_slot (map change_of slots.now)))) }
+    ensures by_one_put { OnOk result (PutsLines (told_by O.written O.puts out.old) (told_by O.written O.puts out.new) (map line_of_slot (map change_of slots.now))) }
+    ensures cut { OnErr result (PutsFirst (told_by O.written O.puts out.old) (told_by O.written O.puts out.new) (map line_of_slot (map change_of slots.now))) }
     ensures failed { OnErr result (Rose (O.faults out.old) (O.faults out.new)) }
     ensures count { O.faults out.old ≤ O.faults out.new }
 {
@@ -89,11 +97,13 @@ impl From<Failed> for Stopped {
 }
 
 /// Puts a line for each object of a heap, in the order of their numbers: where it stands. After `Write`, which comes only where
-/// the sink's count of faults rose, a front of the lines was added.
+/// the sink's count of faults rose, a front of the lines was added. Where none has more than 8,192 bytes, each is put by one call.
 pub fn write_places<O: Sink>(layouts: &[Layout], heap: &Heap, out: &mut O) -> Result<(), Stopped>
     requires { IsNumbered heap.now.stands }
     ensures ok { OnOk result (O.written out.new ≡ append_known (O.written out.old) (concat (place_lines layouts.now heap.now.stands heap.now.contents))) }
     ensures err { OnErr result (AppendsFront (O.written out.old) (O.written out.new) (concat (place_lines layouts.now heap.now.stands heap.now.contents))) }
+    ensures by_one_put { All IsShort (place_lines layouts.now heap.now.stands heap.now.contents) → OnOk result (PutsLines (told_by O.written O.puts out.old) (told_by O.written O.puts out.new) (place_lines layouts.now heap.now.stands heap.now.contents)) }
+    ensures cut { All IsShort (place_lines layouts.now heap.now.stands heap.now.contents) → OnErr result (PutsFirst (told_by O.written O.puts out.old) (told_by O.written O.puts out.new) (place_lines layouts.now heap.now.stands heap.now.contents)) }
     ensures failed { IsErrOf result Stopped.Write → Rose (O.faults out.old) (O.faults out.new) }
     ensures count { O.faults out.old ≤ O.faults out.new }
 {

@@ -16,7 +16,7 @@ use Rattle.machine_meaning.specs.MachineRuns.{MachineOutcome, MachineGives}
 use Rattle.machine_meaning.proofs.OutcomeLaws.{gives_one}
 use Rattle.run_texts.specs.RunTexts.{RunWritesQuiet, no_frames}
 use Rattle.run_texts.proofs.TextLaws.{one_text}
-use Rattle.ir_machine.specs.declared.run.Ran.{Ran}
+use Rattle.run_tasks.specs.declared.runs.Ran.{Ran}
 use Rattle.ir_machine.specs.declared.run.Shows.{Shows}
 use Rattle.ir_machine.specs.Answers.{IsRun, WritesFront}
 use Rattle.moves_unseen.specs.Waits.{IsSound}

@@ -1,7 +1,7 @@
 use Rattle.std.proofs.lemmas.Result.{IfOk-weaker}
 use Rattle.stackmap_view.specs.Maps.{stack_map}
 use Rattle.moves_unseen.specs.Waits.{IsSound}
-use Rattle.ir_machine.specs.declared.run.Ran.{Ran}
+use Rattle.run_tasks.specs.declared.runs.Ran.{Ran}
 use Rattle.ir_machine.specs.Answers.{IsRunOver, IsRunUnseen}
 use Rattle.ir_machine.proofs.RunLemmas.{seen_over}
 use Rattle.ir_machine.proofs.run.run_verified.Goals as goal

@@ -1,4 +1,4 @@
-use Rattle.std.proofs.Common.{◌≡◌, ℕ, List, map, take, sym, ap, ◌∙◌}
+use Rattle.std.proofs.Common.{◌≡◌, map, take, sym, ap, ◌∙◌}
 use Rattle.ir_ast.specs.Objects.{number}
 use Rattle.object_meaning.specs.Lines.{following}
 use Rattle.machine_meaning.specs.Words.{worded_operand}
