@@ -24,21 +24,6 @@ all_within test places i n x e =
     let more : n + 1 ≡ suc n = omega arith in
     ap (λ (k : ℕ). list_all test (take k (drop i places))) more ∙ ap (λ (l : List Place). list_all test (take (suc n) l)) (one_more places i x e)
 
--- ---- the number of "deopt" locations
-
-pub opens_within : (places : List Place) → opens places ≡ true → 3 + deopt_count places ≤ length places
-opens_within [] h = absurd (false≢true h)
-opens_within (one ∷ []) h = absurd (false≢true h)
-opens_within (one ∷ two ∷ []) h = absurd (false≢true h)
-opens_within (one ∷ two ∷ three ∷ rest) h =
-    let few = int_le (pos 0) three.offset && leb (unsigned_abs three.offset) (length rest) in
-    let first = and_parts (is_constant one) (is_constant two && (is_constant three && few)) h in
-    let second = and_parts (is_constant two) (is_constant three && few) first.1 in
-    let third = and_parts (is_constant three) few second.1 in
-    let count = and_parts (int_le (pos 0) three.offset) (leb (unsigned_abs three.offset) (length rest)) third.1 in
-    let least = leb-true (unsigned_abs three.offset) (length rest) count.1 in
-    omega (arith, least)
-
 -- where the pairs begin
 module _ (one : FrameEntry) (first : ℕ) (is : first ≡ 3 + deopt_count one.places) where
   pub behind_deopt : drop first one.places ≡ pair_places one

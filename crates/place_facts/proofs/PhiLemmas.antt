@@ -43,9 +43,3 @@ home_phi func homes block value home knows found =
 pub no_phi : (func : Function) (homes : List (Option Home)) (block value : ℕ) → KnowsHomes func (length func.blocks) 0 homes → home_in homes value ≡ None
     → IsKnown func block (named value) false
 no_phi func homes block value knows none = λ from. along_other (lines_at func block) from value (finds_no_phi func homes block value knows none)
-
--- of a base
-pub base_phi : (func : Function) (block : ℕ) (operand : Operand) (answer : Bool) → IsKnown func block operand answer
-    → MatchBool answer (IsBaseOfPhi func block (Named operand)) (IsBaseLeft (lines_at func block) (Named operand))
-base_phi func block operand true is = is
-base_phi func block operand false left = λ from. ap Named (left from)
