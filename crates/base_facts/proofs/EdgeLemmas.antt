@@ -1,5 +1,5 @@
 -- The phi of a block that gives a value, and what the value was along an edge.
-use Rattle.std.proofs.Common.{◌≡◌, ◌∙◌, inl, inr, ℕ, zero, suc, ◌<◌, ◌≤◌, cond, Bool, true, false, List, [], ◌∷◌, Option, Some, None, refl, ap, sym, subst, length, arith, take, nat_lt}
+use Rattle.std.proofs.Common.{◌≡◌, ◌∙◌, inl, inr, ℕ, zero, suc, ◌<◌, ◌≤◌, cond, Bool, true, List, [], ◌∷◌, Option, Some, None, refl, ap, sym, subst, length, arith, take, nat_lt}
 use Rattle.std.specs.Prelude.{◌==◌, ◌&&◌}
 use Rattle.std.proofs.lemmas.Bool.{false≢true, cases_Bool, eqb-true, eq-eqb, ltb-true, lt-ltb, and_parts, and_from}
 use Rattle.std.proofs.lemmas.List.Sums.{prefix_len-le-length}
@@ -8,9 +8,9 @@ use Rattle.ir_ast.specs.Funcs.{Function}
 use Rattle.ir_ast.specs.Faults.PhiEdges.{is_phi}
 use Rattle.object_meaning.specs.Lines.{Line}
 use Rattle.object_meaning.specs.Jumps.{phi_count}
-use Rattle.pair_facts.specs.Lines.{lines_at, line_in, phis_in, gives, named}
+use Rattle.pair_facts.specs.Lines.{lines_at, line_in, phis_in, named}
 use Rattle.pair_facts.specs.Pairs.{incoming, value_along}
-use Rattle.pair_facts.proofs.GroupLaws.{gives_is, given_is, not_given}
+use Rattle.pair_facts.proofs.GroupLaws.{gives_is, not_given}
 use Rattle.fact_tables.specs.declared.homes.Home.{Home}
 use Rattle.fact_tables.specs.Homes.{GivesAt, home_at, home_in, KnowsHomes}
 use Rattle.base_facts.specs.Edges.{IsPhiOf, FindsPhi, place_below}

@@ -39,7 +39,7 @@ use Rattle.list_laws.proofs.Booleans.{and_false}
 
 -- ---- operators
 
-statepoint_apart : (op : Op) → is_statepoint op ≡ true → (is_member op ≡ false) × (is_phi op ≡ false)
+pub statepoint_apart : (op : Op) → is_statepoint op ≡ true → (is_member op ≡ false) × (is_phi op ≡ false)
 statepoint_apart (Statepoint id callee types) is = (refl, refl)
 statepoint_apart op is = absurd (false≢true is)
 

@@ -1,18 +1,15 @@
 -- A fact is what it was at the end of the last block that each path leaves, or is missed where a path leaves it nowhere.
-use Rattle.std.proofs.Common.{◌≡◌, ◌∙◌, ◌⊎◌, inl, inr, ℕ, ◌<◌, ◌≤◌, Bool, true, false, List, [], Option, Some, None, ltb, refl, ap, sym, subst, slice_get, length, arith}
-use Rattle.std.specs.Prelude.{◌==◌, slice_index}
+use Rattle.std.proofs.Common.{◌≡◌, ◌∙◌, ◌⊎◌, inl, inr, ℕ, ◌<◌, ◌≤◌, Bool, true, false, List, Option, Some, None, refl, ap, sym, subst, length, arith}
+use Rattle.std.specs.Prelude.{◌==◌}
 use Rattle.std.specs.Option.{option_map_or}
 use Rattle.std.proofs.lemmas.Bool.{false≢true, cases_Bool, cases_eq, cases_lt, eqb-true, lt-ltb, ltb-true, and_parts}
 use Rattle.std.proofs.lemmas.List.{get_or_past}
 use Rattle.std.proofs.lemmas.Option.{none-some, same_Some, slice_get_past}
-use Rattle.ir_ast.specs.Blocks.{BasicBlock}
-use Rattle.ir_ast.specs.Insts.{Instruction}
 use Rattle.ir_ast.specs.Funcs.{Function}
 use Rattle.ir_ast.specs.declared.funcs.Arg.{Arg}
 use Rattle.ir_ast.specs.Types.{is_pointer}
 use Rattle.ir_cfg.specs.Graphs.{graph_of, Edge}
-use Rattle.ir_cfg.specs.Paths.{Reached}
-use Rattle.object_meaning.specs.Lines.{Line, insts_in, registers_of}
+use Rattle.object_meaning.specs.Lines.{Line}
 use Rattle.object_meaning.specs.Frames.{is_member}
 use Rattle.object_meaning.specs.Jumps.{phi_count}
 use Rattle.pair_facts.specs.declared.bases.Base.TheVariants.{Any, Named}
@@ -25,7 +22,6 @@ use Rattle.pair_facts.proofs.OwnLaws.{arrives_own}
 use Rattle.pair_facts.proofs.PlaceLaws.{Leaves, LeavesBase, pairs_from_front}
 use Rattle.fact_tables.specs.declared.homes.Home.{Home}
 use Rattle.fact_tables.specs.Homes.{GivesAt, home_at, home_in, KnowsHomes}
-use Rattle.fact_tables.proofs.LineLemmas.{plain_none}
 use Rattle.fact_tables.proofs.TableLemmas.{home_found, gives_inside}
 use Rattle.since_statepoint.specs.Regions.{waits, Slips, from_entry, from_statepoint, along}
 use Rattle.base_facts.specs.declared.facts.Pointer.{Pointer}
@@ -44,7 +40,7 @@ use Rattle.base_facts.proofs.ClosingLemmas.{reached_arrives, arrives_reached, fr
 
 -- ---- a value that a block doesn't give
 
-value_leaves : (line : Line) (value : ℕ) → (line.to ≡ Some value → ⊥) → Leaves line (named value)
+pub value_leaves : (line : Line) (value : ℕ) → (line.to ≡ Some value → ⊥) → Leaves line (named value)
 value_leaves line value none given is = elim (cases_Bool (given == value)) [
   | inl same ↦ absurd (none (is ∙ ap Some (eqb-true given value same)))
   | inr other ↦ other

@@ -8,7 +8,6 @@ ghost use Rattle.fact_tables.specs.Tables.{AreTables};
 ghost use Rattle.base_facts.specs.Edges.{FindsPhi, place_below};
 
 use crate::facts::{Fact, Pointer, Wanted, fact_at};
-use crate::members::is_pointer;
 use crate::steps::is_own;
 use fact_tables::homes::{Home, home_of};
 use fact_tables::tables::{Tables, front_of, incoming};
@@ -118,7 +117,7 @@ fn is_pointer_argument(func: &Func, value: u32) -> bool
     ensures { result ≡ is_pointer_argument func.now.content value }
 {
     match func.args().get(value as usize) {
-        Some(arg) => is_pointer(&arg.ty),
+        Some(arg) => arg.ty.is_pointer(),
         None => false,
     }
 }

@@ -1,9 +1,6 @@
-//! The pairs that the line of a statepoint group gives, and reads of its operands.
+//! The pairs that the line of a statepoint group gives.
 
-ghost use Rattle.std.specs.Prelude.{◌≡◌, ◌<◌, Some, length, drop, slice_get};
-ghost use Rattle.ir_ast.specs.Types.{is_pointer};
-ghost use Rattle.ir_ast.specs.Faults.GroupShape.{entries_of};
-ghost use Rattle.object_meaning.specs.Frames.{index_in};
+ghost use Rattle.std.specs.Prelude.{◌≡◌, ◌<◌, Some, length};
 ghost use Rattle.pair_facts.specs.declared.bases.Base.TheVariants.{Any, Named};
 ghost use Rattle.pair_facts.specs.Lines.{lines_at, line_in, head_at, group_in, is_null, operand_at};
 ghost use Rattle.pair_facts.specs.Pairs.{base_index, has_base, relocated_pairs, member_pairs};
@@ -12,70 +9,14 @@ ghost use Rattle.fact_tables.specs.Groups.{relocates_base_of};
 ghost use Rattle.fact_tables.specs.Tables.{AreTables};
 ghost use Rattle.base_facts.specs.Members.{member_named};
 
+use fact_tables::insts::{inst_at, operand_at};
 use fact_tables::tables::{Tables, is_based};
-use ir_ast::{Func, Inst, Op, Operand, Ty};
-
-/// The instruction at a place of a block.
-pub(crate) fn inst_at(func: &Func, block: usize, place: usize) -> &Inst
-    requires block { block < length func.now.content.blocks }
-    requires place { place < length (lines_at func.now.content block) }
-    ensures { result.now ≡ (line_in (lines_at func.now.content block) place).inst }
-{
-    &func.blocks()[block].insts()[place]
-}
-
-pub(crate) fn is_pointer(ty: &Ty) -> bool
-    ensures { result ≡ is_pointer ty.now }
-{
-    matches!(ty, Ty::Ptr)
-}
-
-pub(crate) fn operand_at(operands: &[Operand], place: usize) -> Operand
-    ensures { result ≡ operand_at operands.now place }
-{
-    operands.get(place).copied().unwrap_or(Operand::Int(0))
-}
-
-pub(crate) fn is_null(operand: Operand) -> bool
-    ensures { result ≡ is_null operand }
-{
-    matches!(operand, Operand::Null)
-}
-
-/// The "gc-live" entries of a statepoint.
-pub(crate) fn entries_of(inst: &Inst) -> &[Operand]
-    ensures { result.now ≡ entries_of inst.now }
-{
-    match inst.op() {
-        Op::Statepoint { types, .. } => behind(inst.operands(), types.list().len()),
-        _ => &[],
-    }
-}
-
-fn behind(operands: &[Operand], count: usize) -> &[Operand]
-    ensures { result.now ≡ drop count operands.now }
-{
-    if count <= operands.len() {
-        &operands[count..]
-    } else {
-        &[]
-    }
-}
-
-/// The number at a place of the operands of a result or a relocate.
-pub(crate) fn index_at(inst: &Inst, place: usize) -> u64
-    ensures { result ≡ index_in (slice_get inst.now.operands place) }
-{
-    match inst.operands().get(place) {
-        Some(Operand::Int(number)) => *number,
-        _ => 0,
-    }
-}
+use ir_ast::{Func, Inst, Op, Operand};
 
 fn is_relocate_of_base(inst: &Inst, entry: u64) -> bool
     ensures { result ≡ relocates_base_of entry inst.now }
 {
-    matches!(inst.op(), Op::GcRelocate) && index_at(inst, 1) == entry && index_at(inst, 2) == entry
+    inst.op().is_relocate() && inst.index_at(1) == entry && inst.index_at(2) == entry
 }
 
 fn is_null_entry(func: &Func, block: usize, head: usize, entry: u64) -> bool
@@ -83,7 +24,7 @@ fn is_null_entry(func: &Func, block: usize, head: usize, entry: u64) -> bool
     requires head { head < length (lines_at func.now.content block) }
     ensures { result ≡ is_null (operand_at (entries_at (lines_at func.now.content block) head) entry) }
 {
-    is_null(operand_at(entries_of(inst_at(func, block, head)), entry as usize))
+    operand_at(inst_at(func, block, head).live_entries(), entry as usize).is_null()
 }
 
 /// Whether a line of a group gives a fresh pointer.
@@ -105,8 +46,8 @@ pub(crate) fn is_fresh_member(
 {
     let inst = inst_at(func, block, at);
     match inst.op() {
-        Op::GcResult => is_pointer(inst.ty()),
-        Op::GcRelocate => is_fresh_entry(func, tables, block, at, head, index_at(inst, 1)),
+        Op::GcResult => inst.ty().is_pointer(),
+        Op::GcRelocate => is_fresh_entry(func, tables, block, at, head, inst.index_at(1)),
         _ => false,
     }
 }
@@ -160,7 +101,7 @@ pub(crate) fn is_null_member(func: &Func, block: usize, value: u32, at: usize, h
 {
     let inst = inst_at(func, block, at);
     match inst.op() {
-        Op::GcRelocate => is_null_entry(func, block, head, index_at(inst, 1)),
+        Op::GcRelocate => is_null_entry(func, block, head, inst.index_at(1)),
         _ => false,
     }
 }
@@ -182,8 +123,8 @@ pub(crate) fn is_based_member(
 {
     let inst = inst_at(func, block, at);
     match inst.op() {
-        Op::GcResult => is_pointer(inst.ty()) && value == base,
-        Op::GcRelocate => is_relocate_of_base(inst_at(func, block, given), index_at(inst, 1)),
+        Op::GcResult => inst.ty().is_pointer() && value == base,
+        Op::GcRelocate => is_relocate_of_base(inst_at(func, block, given), inst.index_at(1)),
         _ => false,
     }
 }

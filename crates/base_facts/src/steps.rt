@@ -1,15 +1,15 @@
 //! What the line that gives a pointer says of its base.
 
 ghost use Rattle.std.specs.Prelude.{◌≡◌, ◌<◌, ◌==◌, ◌&&◌, length};
-ghost use Rattle.pair_facts.specs.Lines.{lines_at, line_in, line_before, same_operand};
+ghost use Rattle.pair_facts.specs.Lines.{lines_at, line_in, line_before};
 ghost use Rattle.pair_facts.specs.Pairs.{is_named, is_base_named, own_pairs};
 ghost use Rattle.base_facts.specs.Facts.{base_in};
 ghost use Rattle.fact_tables.specs.Tables.{AreTables};
 ghost use Rattle.base_facts.specs.Steps.{asked_without, one_of, two_of, own_step, follow_step, select_step, step_for, is_merge_of, merged, GivesBefore};
 
 use crate::facts::{Fact, Wanted, fact_at};
-use crate::members::{inst_at, is_pointer, operand_at};
 use fact_tables::homes::{Home, home_of};
+use fact_tables::insts::inst_at;
 use fact_tables::tables::Tables;
 use ir_ast::{Func, Inst, Op, Operand};
 use pair_facts::Base;
@@ -34,16 +34,16 @@ pub(crate) fn step_of(func: &Func, tables: &Tables, fact: Fact, value: u32, at: 
 {
     let inst = inst_at(func, fact.block, at);
     match inst.op() {
-        Op::Load => Step::Known(is_pointer(inst.ty()) && is_own(value, fact.base)),
+        Op::Load => Step::Known(inst.ty().is_pointer() && is_own(value, fact.base)),
         Op::Gep { .. } => one(without(
             fact.block,
             at,
             value,
-            operand_at(inst.operands(), 0),
+            inst.operand_at(0),
             base_of(fact.base),
         )),
         Op::Select => {
-            if is_pointer(inst.ty()) {
+            if inst.ty().is_pointer() {
                 select_step(func, tables, fact, value, at, inst)
             } else {
                 Step::Known(false)
@@ -126,8 +126,8 @@ fn select_step(func: &Func, tables: &Tables, fact: Fact, value: u32, at: usize, 
     requires at { at < length (lines_at func.now.content fact.block) }
     ensures { result ≡ select_step fact.block at value (line_before (lines_at func.now.content fact.block) at) inst.now fact.base }
 {
-    let first = operand_at(inst.operands(), 1);
-    let second = operand_at(inst.operands(), 2);
+    let first = inst.operand_at(1);
+    let second = inst.operand_at(2);
     match fact.base {
         Wanted::Any => two(
             without(fact.block, at, value, first, Base::Any),
@@ -148,8 +148,8 @@ fn select_step(func: &Func, tables: &Tables, fact: Fact, value: u32, at: usize, 
 fn own_step(block: usize, at: usize, value: u32, inst: &Inst) -> Step
     ensures { result ≡ own_step block at value inst.now }
 {
-    let first = operand_at(inst.operands(), 1);
-    let second = operand_at(inst.operands(), 2);
+    let first = inst.operand_at(1);
+    let second = inst.operand_at(2);
     two(
         without(block, at, value, first, Base::Named(first)),
         without(block, at, value, second, Base::Named(second)),
@@ -188,15 +188,15 @@ fn merged(block: usize, at: usize, value: u32, inst: &Inst, last: &Inst, gives: 
                 block,
                 at,
                 value,
-                operand_at(inst.operands(), 1),
-                Base::Named(operand_at(last.operands(), 1)),
+                inst.operand_at(1),
+                Base::Named(last.operand_at(1)),
             ),
             without(
                 block,
                 at,
                 value,
-                operand_at(inst.operands(), 2),
-                Base::Named(operand_at(last.operands(), 2)),
+                inst.operand_at(2),
+                Base::Named(last.operand_at(2)),
             ),
         )
     } else {
@@ -209,22 +209,8 @@ fn is_merge_of(last: &Inst, inst: &Inst) -> bool
     ensures { result ≡ is_merge_of last.now inst.now }
 {
     matches!(last.op(), Op::Select)
-        && is_pointer(last.ty())
-        && same_operand(
-            operand_at(last.operands(), 0),
-            operand_at(inst.operands(), 0),
-        )
-}
-
-pub(crate) fn same_operand(one: Operand, other: Operand) -> bool
-    ensures { result ≡ same_operand one other }
-{
-    match (one, other) {
-        (Operand::Value(value), Operand::Value(other)) => value.0 == other.0,
-        (Operand::Int(number), Operand::Int(other)) => number == other,
-        (Operand::Null, Operand::Null) => true,
-        _ => false,
-    }
+        && last.ty().is_pointer()
+        && last.operand_at(0).is_same(inst.operand_at(0))
 }
 
 // Whether the line before gives the value.

@@ -1,12 +1,11 @@
 -- What the definitions of a function say of its derived pointers, and its marks.
-use Rattle.std.proofs.Common.{◌≡◌, ◌∙◌, ℕ, ◌<◌, ◌^◌, Bool, true, ◌&&◌, List, [], ◌∷◌, ◌++◌, length, Option, Some, is_some, slice_get, refl, ap, sym, subst, arith, append-nil, inl, inr}
+use Rattle.std.proofs.Common.{◌≡◌, ◌∙◌, ℕ, ◌<◌, ◌^◌, Bool, ◌&&◌, List, [], ◌∷◌, ◌++◌, length, is_some, refl, ap, sym, subst, arith, append-nil, inl, inr}
 use Rattle.std.specs.Prelude.{map}
-use Rattle.std.specs.List.{list_any, filter, filter_map, All, Contains}
-use Rattle.std.proofs.lemmas.Bool.{cases_Bool, false≢true}
+use Rattle.std.specs.List.{list_any, filter, filter_map, All}
+use Rattle.std.proofs.lemmas.Bool.{cases_Bool}
 use Rattle.std.proofs.lemmas.List.{length-map, length-append}
 use Rattle.std.proofs.lemmas.List.Elements.{All-nil, All-cons, All-head, All-tail, All-append}
 use Rattle.std.proofs.lemmas.List.Sums.{length-filter, count_by-le-length}
-use Rattle.list_laws.proofs.Places.{get_map, map_back}
 use Rattle.list_laws.proofs.Contents.{all_at}
 use Rattle.ir_ast.specs.declared.funcs.Arg.{Arg}
 use Rattle.ir_ast.specs.declared.types.Ty.{Ty}
@@ -19,14 +18,17 @@ use Rattle.ir_ast.specs.Funcs.{Function, IsSmall, instructions_of}
 use Rattle.ir_ast.specs.Values.{Definition, argument, outcome, definitions_of, Gives}
 use Rattle.ir_ast.specs.Operands.{values_used, value_in}
 use Rattle.ir_ast.specs.Lines.{IsLine, LineOf}
-use Rattle.ir_ast.specs.Derived.{is_step, is_merge, Derived, by_step, by_merge}
+use Rattle.ir_ast.specs.Derived.{is_merge}
 use Rattle.base_forms.specs.DerivedMarks.{has_mark, uses_marked, derived_marks}
 use Rattle.base_forms.specs.Inserted.{by_line, is_merged, is_negated, is_unequal, has_inserted}
 use Rattle.base_forms.specs.Bases.{source_of}
 use Rattle.base_forms.proofs.DerivedLaws.{only_marks}
-use Rattle.base_tables.specs.Kinds.{Kind, plain, steps, merges, differs, kind_by, kind_of, any_marked, kind_merged, kind_negated, kind_source}
+use Rattle.base_tables.specs.Kinds.{Kind, kind_by, kind_of, any_marked, kind_merged, kind_negated, kind_source}
 use Rattle.base_tables.specs.Flags.{kind_inserted}
-use Rattle.base_tables.specs.Users.{UsedBy, StepsAt, DerivedIn, at_step, at_use, AreMarks}
+use Rattle.base_tables.specs.Users.{AreMarks, given_kind}
+use Rattle.derived_values.specs.Givens.{Given, merge, given_by, given_of}
+use Rattle.derived_values.specs.Deriveds as deriveds
+use Rattle.derived_values.proofs.FunctionLemmas.{in_derived, derived_in}
 
 -- ---- all definitions
 
@@ -123,92 +125,32 @@ source_kind (outcome inst) = source_by inst.op inst refl
 
 -- ---- the marks
 
-steps_op : (op : Op) (operands : List Operand) (before : Option Operand) → kind_by op operands ≡ steps before → is_step op ≡ true
-steps_op (Gep elem index_width place) operands before is = refl
-steps_op Phi operands before is = absurd (let bad : merges operands ≡ steps before = is in cc)
-steps_op Select operands before is = absurd (let bad : merges operands ≡ steps before = is in cc)
-steps_op (Icmp Ne) operands before is = absurd (let bad : differs operands ≡ steps before = is in cc)
-steps_op (Icmp pred) operands before is = absurd (let bad : plain ≡ steps before = is in cc)
-steps_op op operands before is = absurd (let bad : plain ≡ steps before = is in cc)
+-- what gives a value is told by the kind of its line, whose bundle is empty
+given_by_kind : (op : Op) (inst : Instruction) → LineOf op inst → given_kind (kind_by op inst.operands) ≡ given_by op (values_used inst)
+given_by_kind Phi inst line = ap merge (sym (quiet inst line.0.no_bundle))
+given_by_kind Select inst line = ap merge (sym (quiet inst line.no_bundle))
+given_by_kind (Icmp Ne) inst line = refl
+given_by_kind (Icmp pred) inst line = refl
+given_by_kind op inst line = refl
 
-step_kind : (op : Op) (operands : List Operand) → is_step op ≡ true → (before : Option Operand) × (kind_by op operands ≡ steps before)
-step_kind (Gep elem index_width place) operands is = (slice_get operands 0, refl)
-step_kind op operands is = absurd (false≢true is)
+given_same : (one : Definition) → OfLine IsLine one → given_kind (kind_of one) ≡ given_of one
+given_same (argument arg) line = refl
+given_same (outcome inst) line = given_by_kind inst.op inst line
 
-record IsMerge (op : Op) (operands used : List Operand) : Type 0 where
-  pub merge : is_merge op ≡ true
-  pub same : operands ≡ used
+givens_are : (all : List Definition) → All (OfLine IsLine) all → map given_kind (map kind_of all) ≡ map given_of all
+givens_are [] every = refl
+givens_are (one ∷ all) every =
+    ap (λ (given : Given). given ∷ map given_kind (map kind_of all)) (given_same one (All-head (OfLine IsLine) one all every))
+    ∙ ap (λ (rest : List Given). given_of one ∷ rest) (givens_are all (All-tail (OfLine IsLine) one all every))
 
-merges_op : (op : Op) (operands used : List Operand) → kind_by op operands ≡ merges used → IsMerge op operands used
-merges_op Phi operands used is = record { merge = refl; same = (let e : merges operands ≡ merges used = is in cc) }
-merges_op Select operands used is = record { merge = refl; same = (let e : merges operands ≡ merges used = is in cc) }
-merges_op (Gep elem index_width place) operands used is = absurd (let bad : steps (slice_get operands 0) ≡ merges used = is in cc)
-merges_op (Icmp Ne) operands used is = absurd (let bad : differs operands ≡ merges used = is in cc)
-merges_op (Icmp pred) operands used is = absurd (let bad : plain ≡ merges used = is in cc)
-merges_op op operands used is = absurd (let bad : plain ≡ merges used = is in cc)
-
-merge_kind : (op : Op) (operands : List Operand) → is_merge op ≡ true → kind_by op operands ≡ merges operands
-merge_kind Phi operands is = refl
-merge_kind Select operands is = refl
-merge_kind op operands is = absurd (false≢true is)
-
-pub merge_quiet : (op : Op) (inst : Instruction) → LineOf op inst → is_merge op ≡ true → inst.bundle ≡ []
-merge_quiet Phi inst line is = line.0.no_bundle
-merge_quiet Select inst line is = line.no_bundle
-merge_quiet op inst line is = absurd (false≢true is)
-
-module _ (func : Function) (lines : All IsLine (instructions_of func.blocks)) where
-  step_derived : (value : ℕ) → StepsAt (map kind_of (definitions_of func)) value → Derived func value
-  step_derived value at =
-      let m = map_back kind_of (definitions_of func) value (steps at.before) at.stands in
-      by m.before m.stands m.is
-    where
-      by : (given : Definition) → slice_get (definitions_of func) value ≡ Some given → steps at.before ≡ kind_of given → Derived func value
-      by (argument arg) stands is = absurd (let bad : steps at.before ≡ plain = is in cc)
-      by (outcome inst) stands is = by_step value inst stands (steps_op inst.op inst.operands at.before (sym is))
-
-  use_derived : (value user : ℕ) → UsedBy (map kind_of (definitions_of func)) value user → Derived func value → Derived func user
-  use_derived value user used derived =
-      let m = map_back kind_of (definitions_of func) user (merges used.operands) used.stands in
-      by m.before m.stands m.is
-    where
-      by : (given : Definition) → slice_get (definitions_of func) user ≡ Some given → merges used.operands ≡ kind_of given → Derived func user
-      by (argument arg) stands is = absurd (let bad : merges used.operands ≡ plain = is in cc)
-      by (outcome inst) stands is =
-          let merge = merges_op inst.op inst.operands used.operands (sym is) in
-          let none = merge_quiet inst.op inst (line_at IsLine func lines user inst stands) merge.merge in
-          by_merge user value inst stands merge.merge
-          (subst (λ (vs : List ℕ). Contains vs value) (sym (quiet inst none ∙ ap (filter_map value_in) merge.same)) used.used) derived
-
-  derived_step : (value : ℕ) (inst : Instruction) → Gives func value inst → is_step inst.op ≡ true → StepsAt (map kind_of (definitions_of func)) value
-  derived_step value inst gives step =
-      let kind = step_kind inst.op inst.operands step in
-      record { before = kind.0; stands = get_map kind_of (definitions_of func) value (outcome inst) gives ∙ ap (λ (k : Kind). Some k) kind.1 }
-
-  derived_use : (value operand : ℕ) (inst : Instruction) → Gives func value inst → is_merge inst.op ≡ true → Contains (values_used inst) operand
-      → UsedBy (map kind_of (definitions_of func)) operand value
-  derived_use value operand inst gives merge used =
-      let none = merge_quiet inst.op inst (line_at IsLine func lines value inst gives) merge in
-      record {
-        operands = inst.operands;
-        stands = get_map kind_of (definitions_of func) value (outcome inst) gives ∙ ap (λ (k : Kind). Some k) (merge_kind inst.op inst.operands merge);
-        used = subst (λ (vs : List ℕ). Contains vs operand) (quiet inst none) used;
-      }
-
-  in_derived : (value : ℕ) → DerivedIn (map kind_of (definitions_of func)) value → Derived func value
-  in_derived _ (at_step value at) = step_derived value at
-  in_derived _ (at_use value user used derived) = use_derived value user used (in_derived value derived)
-
-  derived_in : (value : ℕ) → Derived func value → DerivedIn (map kind_of (definitions_of func)) value
-  derived_in _ (by_step value inst gives step) = at_step value (derived_step value inst gives step)
-  derived_in _ (by_merge value operand inst gives merge used derived) =
-      at_use operand value (derived_use value operand inst gives merge used) (derived_in operand derived)
-
-  -- the marks are those of the derived values
-  pub marks_are : (marks : List Bool) → AreMarks (map kind_of (definitions_of func)) marks → marks ≡ derived_marks func
-  marks_are marks found =
-      only_marks func marks (record {
-        whole = found.whole ∙ length-map (definitions_of func) kind_of;
-        sound = λ value marked. in_derived value (found.sound value marked);
-        complete = λ value derived. found.complete value (derived_in value derived);
-      })
+-- the marks are those of the derived values
+pub marks_are : (func : Function) → All IsLine (instructions_of func.blocks) → (marks : List Bool) → AreMarks (map kind_of (definitions_of func)) marks
+    → marks ≡ derived_marks func
+marks_are func lines marks found =
+    let given : deriveds.AreMarks (map given_of (definitions_of func)) marks
+    = subst (λ (gs : List Given). deriveds.AreMarks gs marks) (givens_are (definitions_of func) (definitions_all IsLine func lines)) found in
+    only_marks func marks (record {
+      whole = given.whole ∙ length-map (definitions_of func) given_of;
+      sound = λ value marked. in_derived func value (given.sound value marked);
+      complete = λ value derived. given.complete value (derived_in func value derived);
+    })

@@ -9,7 +9,7 @@ use Rattle.list_laws.proofs.Places.{get_set, get_filled}
 use Rattle.ir_ast.specs.declared.ops.Operand.{Operand}
 use Rattle.ir_ast.specs.declared.ops.Operand.TheVariants.{Value, Int, Null, Fun}
 use Rattle.base_forms.specs.Bases.{origin_by}
-use Rattle.base_forms.proofs.OriginLaws.{AreSteps, origin_by-step, origin_by-own}
+use Rattle.base_forms.proofs.OriginLaws.{AreSteps, origin_by-step}
 use Rattle.base_tables.specs.Kinds.{Kind, kind_source, stepped_in, origin_in}
 use Rattle.base_tables.specs.Origins.{found_at, AreFound}
 use Rattle.ir_ast.specs.Operands.{named}

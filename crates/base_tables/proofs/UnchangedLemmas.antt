@@ -15,7 +15,7 @@ use Rattle.ir_ast.specs.Faults.UnknownName.{LocalNamesAreKnown}
 use Rattle.ir_ast.specs.Values.{definitions_of}
 use Rattle.base_tables.specs.Kinds.{Kind, kind_of, kind_merged, kind_negated, origin_in}
 use Rattle.base_tables.specs.Flags.{kind_inserted}
-use Rattle.base_tables.specs.Users.{AreMarks}
+use Rattle.base_tables.specs.Users.{AreMarks, given_kind}
 use Rattle.base_tables.specs.Tables.{tables_of, unchanged, marks_before, inserted_in, number_in, own_base_in}
 use Rattle.base_tables.proofs.TableLemmas.{map_range_same, IsKnown, origin_known, origin_same, tables_are}
 use Rattle.ir_ast.specs.Operands.{named}
@@ -129,14 +129,15 @@ module _ (func : Function) (lines : All IsLine (instructions_of func.blocks)) (k
       → unchanged derived origins ≡ tables_of func
   unchanged_are kinds same derived origins found origins_is none =
       let n = length derived in
+      let whole : n ≡ length kinds = found.whole ∙ length-map kinds given_kind in
       let flags : (f : Kind → Bool) → ((value : ℕ) (kind : Kind) → slice_get kinds value ≡ Some kind → f kind ≡ false) → map f kinds ≡ replicate n false
-      = λ f is. all_false f kinds is ∙ ap (λ k. replicate k false) (sym found.whole) in
+      = λ f is. all_false f kinds is ∙ ap (λ k. replicate k false) (sym whole) in
       let merged = flags (kind_merged derived) (λ value kind at. (or_parts (kind_merged derived kind) (kind_negated derived kind) (none value kind at)).0) in
       let negated = flags (kind_negated derived) (λ value kind at. (or_parts (kind_merged derived kind) (kind_negated derived kind) (none value kind at)).1) in
       let either = flags (kind_inserted derived) none in
-      let origins_so = origins_is ∙ ap (λ k. map (λ value. origin_in kinds (named value)) (range_with_len 0 k)) (sym found.whole) in
+      let origins_so = origins_is ∙ ap (λ k. map (λ value. origin_in kinds (named value)) (range_with_len 0 k)) (sym whole) in
       tables_are func lines known kinds same derived (map (kind_merged derived) kinds) (map (kind_negated derived) kinds) (map (kind_inserted derived) kinds)
-      (replicate n 0) (replicate n 0) (range_with_len 0 n) (range_with_len 0 n) origins origins n found found.whole origins_so refl refl refl
+      (replicate n 0) (replicate n 0) (range_with_len 0 n) (range_with_len 0 n) origins origins n found whole origins_so refl refl refl
       (no_ranks (map (kind_merged derived) kinds) n merged) (no_ranks (map (kind_negated derived) kinds) n negated)
       (no_insertions (map (kind_inserted derived) kinds) n either) (same_numbers (map (kind_inserted derived) kinds) n either)
-      (bases_kept kinds same (map (kind_merged derived) kinds) origins n (found.whole ∙ ap length same ∙ length-map (definitions_of func) kind_of) merged origins_so)
+      (bases_kept kinds same (map (kind_merged derived) kinds) origins n (whole ∙ ap length same ∙ length-map (definitions_of func) kind_of) merged origins_so)

@@ -1,48 +1,25 @@
--- The users of values, by number, and the marks that a search along them leaves.
-use Rattle.std.specs.Prelude.{◌≡◌, ℕ, ◌<◌, ◌⊎◌, Bool, true, false, not, ◌||◌, List, [], ◌∷◌, ◌++◌, length, Option, Some, slice_get}
-use Rattle.std.specs.List.{Contains, filter_map}
-use Rattle.graph_search.specs.Edges.{Edge}
-use Rattle.graph_search.specs.Paths.{Marked}
-use Rattle.ir_ast.specs.declared.ops.Operand.{Operand}
+-- Derived values by their kinds, and what marks that are spread in order say.
+use Rattle.std.specs.Prelude.{ℕ, Bool, true, false, not, ◌||◌, List, map}
+use Rattle.std.specs.List.{filter_map}
 use Rattle.ir_ast.specs.Operands.{value_in}
 use Rattle.base_forms.specs.DerivedMarks.{has_mark}
 use Rattle.base_tables.specs.Kinds.{Kind, steps, merges, any_marked}
-use Rattle.derived_values.specs.Users.{AddsUsers}
+use Rattle.derived_values.specs.Givens.{Given, other, step, merge}
+use Rattle.derived_values.specs.Deriveds as deriveds
 
--- what a value of this kind adds to the steps and to the users
-abbrev pub Notes : Kind → ℕ → List ℕ → List ℕ → List (List ℕ) → List (List ℕ) → Type 0
-Notes (steps before) value old new rows more = (new ≡ old ++ value ∷ []) × (more ≡ rows)
-Notes (merges operands) value old new rows more = (new ≡ old) × AddsUsers (filter_map value_in operands) value rows more
-Notes kind value old new rows more = (new ≡ old) × (more ≡ rows)
-
--- a phi or select uses the value
-pub record UsedBy (kinds : List Kind) (value user : ℕ) : Type 0 where
-  pub operands : List Operand
-  pub stands : slice_get kinds user ≡ Some (merges operands)
-  pub used : Contains (filter_map value_in operands) value
-
-pub record StepsAt (kinds : List Kind) (value : ℕ) : Type 0 where
-  pub before : Option Operand
-  pub stands : slice_get kinds value ≡ Some (steps before)
-
--- the steps and the users among so many values
-pub record AreSources (kinds : List Kind) (count : ℕ) (found : List ℕ) (users : List (List ℕ)) : Type 0 where
-  pub whole : length users ≡ length kinds
-  pub step_found : (value : ℕ) → Contains found value → (value < count) × StepsAt kinds value
-  pub step_kept : (value : ℕ) → value < count → StepsAt kinds value → Contains found value
-  pub use_found : (value user : ℕ) → Edge users value user → (user < count) × UsedBy kinds value user
-  pub use_kept : (value user : ℕ) → user < count → UsedBy kinds value user → value < length kinds → Edge users value user
+-- what gives a value of this kind, as far as derived values go
+abbrev pub given_kind : Kind → Given
+given_kind (steps before) = step
+given_kind (merges operands) = merge (filter_map value_in operands)
+given_kind kind = other
 
 -- the values that are derived, by the kinds: the steps, and the phis and selects that use one of them
-pub data DerivedIn (kinds : List Kind) : ℕ → Type 0 where
-  at_step : (value : ℕ) → StepsAt kinds value → DerivedIn kinds value
-  at_use : (value user : ℕ) → UsedBy kinds value user → DerivedIn kinds value → DerivedIn kinds user
+abbrev pub DerivedIn : List Kind → ℕ → Type 0
+DerivedIn kinds = deriveds.DerivedIn (map given_kind kinds)
 
 -- a mark for each value, on those that are derived
-pub record AreMarks (kinds : List Kind) (marks : List Bool) : Type 0 where
-  pub whole : length marks ≡ length kinds
-  pub sound : (value : ℕ) → Marked marks value → DerivedIn kinds value
-  pub complete : (value : ℕ) → DerivedIn kinds value → Marked marks value
+abbrev pub AreMarks : List Kind → List Bool → Type 0
+AreMarks kinds = deriveds.AreMarks (map given_kind kinds)
 
 abbrev pub kind_steps : Kind → Bool
 kind_steps (steps before) = true

@@ -2,12 +2,10 @@
 
 ghost use Rattle.std.specs.Prelude.{◌≡◌, ◌<◌, [], true, length, map, nat_lt, slice_index_or};
 ghost use Rattle.std.specs.List.{list_all};
-ghost use Rattle.ir_ast.specs.Callees.{is_leaf};
 ghost use Rattle.ir_ast.specs.Edges.{targets};
-ghost use Rattle.rewriting_forms.specs.Numbered.{is_call};
 ghost use Rattle.entry_groups.specs.Entry.{has_no_parts, is_bare, begins_bare, enters_bare, is_one_below, leads_forward, leads_on, waits_at_entry};
 
-use ir_ast::{Block, Callee, Func, Inst, Op};
+use ir_ast::{Block, Func, Inst};
 use sp_ids::BlockId;
 use statepoint_insert::{Group, Relocate};
 
@@ -41,60 +39,13 @@ fn begins_bare(insts: &[Inst]) -> bool
 fn is_bare(inst: &Inst) -> bool
     ensures { result ≡ is_bare inst.now }
 {
-    is_call(inst.op()) && has_no_parts(inst)
+    inst.op().is_call() && has_no_parts(inst)
 }
 
 fn has_no_parts(inst: &Inst) -> bool
     ensures { result ≡ has_no_parts inst.now }
 {
     inst.result().is_none() && (inst.operands().is_empty() && inst.bundle().is_empty())
-}
-
-fn is_call(op: &Op) -> bool
-    ensures { result ≡ is_call op.now }
-{
-    match op {
-        Op::Call { callee, .. } => !is_leaf(*callee),
-        Op::Add
-        | Op::Sub
-        | Op::Mul
-        | Op::Udiv
-        | Op::Sdiv
-        | Op::Urem
-        | Op::Srem
-        | Op::And
-        | Op::Or
-        | Op::Xor
-        | Op::Shl
-        | Op::Lshr
-        | Op::Ashr
-        | Op::Icmp(_)
-        | Op::Trunc(_)
-        | Op::Zext(_)
-        | Op::Sext(_)
-        | Op::Select
-        | Op::Phi
-        | Op::Gep { .. }
-        | Op::Load
-        | Op::Store
-        | Op::Statepoint { .. }
-        | Op::GcResult
-        | Op::GcRelocate
-        | Op::Br
-        | Op::CondBr
-        | Op::Switch
-        | Op::Ret
-        | Op::Unreachable => false,
-    }
-}
-
-fn is_leaf(callee: Callee) -> bool
-    ensures { result ≡ is_leaf callee }
-{
-    match callee {
-        Callee::Print | Callee::Read | Callee::Check | Callee::Same => true,
-        Callee::Fun(_) | Callee::New(_) | Callee::TaskStart | Callee::Poll => false,
-    }
 }
 
 fn is_one_below(count: usize, groups: &[Group]) -> bool

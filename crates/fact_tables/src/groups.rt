@@ -7,7 +7,7 @@ ghost use Rattle.pair_facts.specs.Lines.{lines_at, line_in, head_at, group_in};
 ghost use Rattle.fact_tables.specs.Notes.{head_before, told};
 ghost use Rattle.fact_tables.specs.Groups.{IsKept, Keeps, KeepsBoth, IsGroupOf, is_based, is_based_by};
 
-use crate::insts::{index_at, inst_at, is_member, is_relocate, is_statepoint};
+use crate::insts::inst_at;
 use indexmap::IndexSet;
 use ir_ast::{Block, Func, Inst};
 use sp_ids::Memory;
@@ -43,11 +43,11 @@ pub fn group_here(
     ensures { IfOk result (λ here. IsGroupOf (lines_at func.now.content block) (head_at (lines_at func.now.content block) place) here) }
 {
     let op = inst_at(func, block, place).op();
-    if is_statepoint(op) {
+    if op.is_statepoint() {
         let kept = kept_by(alloc, func, block, place)?;
         return Ok(Some(Group { head: place, kept }));
     }
-    if is_member(op) { Ok(before) } else { Ok(None) }
+    if op.is_member() { Ok(before) } else { Ok(None) }
 }
 
 fn kept_by(alloc: Global, func: &Func, block: usize, head: usize) -> Result<Kept, Memory>
@@ -82,7 +82,7 @@ fn group_end(func: &Func, block: usize, head: usize) -> usize
     let insts = func.blocks()[block].insts();
     for place in head + 1..insts.len() {
         let inst = &insts[place];
-        if !is_member(inst.op()) {
+        if !inst.op().is_member() {
             return place;
         }
     }
@@ -92,8 +92,8 @@ fn group_end(func: &Func, block: usize, head: usize) -> usize
 fn keep(inst: &Inst, kept: &mut Kept) -> Result<(), Memory>
     ensures { IfOk result (λ _. Keeps inst.now kept.old kept.new) }
 {
-    if is_relocate(inst.op()) {
-        keep_both(index_at(inst, 1), index_at(inst, 2), kept)
+    if inst.op().is_relocate() {
+        keep_both(inst.index_at(1), inst.index_at(2), kept)
     } else {
         Ok(())
     }
@@ -144,7 +144,7 @@ fn is_based_by(inst: &Inst, group: &Option<Group>) -> bool
     ensures { result ≡ is_based_by inst.now group.now }
 {
     match group {
-        Some(group) => group.kept.bases.contains(&index_at(inst, 1)),
+        Some(group) => group.kept.bases.contains(&inst.index_at(1)),
         None => false,
     }
 }

@@ -1,14 +1,12 @@
-//! The lines of a function by their places, and tests of their operators.
+//! The lines of a function by their places, and operands by theirs.
 
-ghost use Rattle.std.specs.Prelude.{◌≡◌, ◌<◌, length, slice_get};
-ghost use Rattle.ir_ast.specs.Faults.GroupShape.{is_statepoint};
-ghost use Rattle.object_meaning.specs.Frames.{index_in, is_member};
-ghost use Rattle.pair_facts.specs.Lines.{lines_at, line_in, is_relocate};
+ghost use Rattle.std.specs.Prelude.{◌≡◌, ◌<◌, length};
+ghost use Rattle.pair_facts.specs.Lines.{lines_at, line_in, operand_at};
 
-use ir_ast::{Func, Inst, Op, Operand};
+use ir_ast::{Func, Inst, Operand};
 
 /// The instruction at a place of a block.
-pub(crate) fn inst_at(func: &Func, block: usize, place: usize) -> &Inst
+pub fn inst_at(func: &Func, block: usize, place: usize) -> &Inst
     requires block { block < length func.now.content.blocks }
     requires place { place < length (lines_at func.now.content block) }
     ensures { result.now ≡ (line_in (lines_at func.now.content block) place).inst }
@@ -16,30 +14,9 @@ pub(crate) fn inst_at(func: &Func, block: usize, place: usize) -> &Inst
     &func.blocks()[block].insts()[place]
 }
 
-pub(crate) fn is_statepoint(op: &Op) -> bool
-    ensures { result ≡ is_statepoint op.now }
+/// The operand at a place of a list, or the literal 0 where there is none.
+pub fn operand_at(operands: &[Operand], place: usize) -> Operand
+    ensures { result ≡ operand_at operands.now place }
 {
-    matches!(op, Op::Statepoint { .. })
-}
-
-pub(crate) fn is_member(op: &Op) -> bool
-    ensures { result ≡ is_member op.now }
-{
-    matches!(op, Op::GcResult | Op::GcRelocate)
-}
-
-pub(crate) fn is_relocate(op: &Op) -> bool
-    ensures { result ≡ is_relocate op.now }
-{
-    matches!(op, Op::GcRelocate)
-}
-
-/// The number at a place of the operands of a relocate.
-pub(crate) fn index_at(inst: &Inst, place: usize) -> u64
-    ensures { result ≡ index_in (slice_get inst.now.operands place) }
-{
-    match inst.operands().get(place) {
-        Some(Operand::Int(number)) => *number,
-        _ => 0,
-    }
+    operands.get(place).copied().unwrap_or(Operand::Int(0))
 }

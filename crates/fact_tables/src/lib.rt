@@ -4,7 +4,7 @@
 
 pub mod groups;
 pub mod homes;
-mod insts;
+pub mod insts;
 pub mod notes;
 pub mod phis;
 pub mod tables;

@@ -8,7 +8,6 @@ ghost use Rattle.pair_facts.specs.Lines.{lines_at, head_here};
 ghost use Rattle.fact_tables.specs.Notes.{IsNotes};
 
 use crate::groups::based_of;
-use crate::insts::{is_member, is_statepoint};
 use crate::phis::{Entries, phis_of};
 use ir_ast::{Block, Func, Inst, Op};
 use sp_ids::Memory;
@@ -61,26 +60,20 @@ fn phi_count(insts: &[Inst]) -> usize
     ensures { result ≡ prefix_len (λ inst. is_phi inst.op) insts.now }
 {
     for (place, inst) in insts.iter().enumerate() {
-        if !is_phi(inst.op()) {
+        if !inst.op().is_phi() {
             return place;
         }
     }
     insts.len()
 }
 
-fn is_phi(op: &Op) -> bool
-    ensures { result ≡ is_phi op.now }
-{
-    matches!(op, Op::Phi)
-}
-
-// The statepoint whose group a line is of, given that of the line before.
-fn head_here(op: &Op, place: usize, before: Option<usize>) -> Option<usize>
+/// The statepoint whose group a line is of, given that of the line before.
+pub fn head_here(op: &Op, place: usize, before: Option<usize>) -> Option<usize>
     ensures { result ≡ head_here op.now place before }
 {
-    if is_statepoint(op) {
+    if op.is_statepoint() {
         Some(place)
-    } else if is_member(op) {
+    } else if op.is_member() {
         before
     } else {
         None
@@ -91,5 +84,5 @@ fn start_behind(op: &Op, place: usize, start: usize) -> usize
     requires { place < 2 ^ 63 }
     ensures { result ≡ (if is_statepoint op.now then suc place else start) }
 {
-    if is_statepoint(op) { place + 1 } else { start }
+    if op.is_statepoint() { place + 1 } else { start }
 }

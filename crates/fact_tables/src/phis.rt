@@ -3,11 +3,11 @@
 ghost use Rattle.std.specs.Prelude.{◌≡◌, ◌<◌, ◌≤◌, ◌==◌, length, position, nat_eq, IfOk};
 ghost use Rattle.std.specs.Option.{option_map_or};
 ghost use Rattle.indexmap.specs.IndexMap.{get};
-ghost use Rattle.pair_facts.specs.Lines.{lines_at, operand_at};
+ghost use Rattle.pair_facts.specs.Lines.{lines_at};
 ghost use Rattle.pair_facts.specs.Pairs.{incoming};
 ghost use Rattle.fact_tables.specs.Phis.{KnowsEntries, AreEntries, ArePhis};
 
-use crate::insts::inst_at;
+use crate::insts::{inst_at, operand_at};
 use indexmap::IndexMap;
 use ir_ast::{Func, Inst, Operand};
 use sp_ids::{BlockId, Memory};
@@ -59,12 +59,6 @@ fn all_entries(alloc: Global, labels: &[BlockId], operands: &[Operand]) -> Resul
     Ok(entries)
 }
 
-fn operand_at(operands: &[Operand], place: usize) -> Operand
-    ensures { result ≡ operand_at operands.now place }
-{
-    operands.get(place).copied().unwrap_or(Operand::Int(0))
-}
-
 /// The operand of a phi on an edge from this block.
 pub(crate) fn incoming(from: BlockId, phi: &Inst, entries: &Option<Entries>) -> Operand
     requires { AreEntries phi.now entries.now }
@@ -86,7 +80,7 @@ fn first_incoming(from: BlockId, phi: &Inst) -> Operand
     ensures { result ≡ incoming from.0 phi.now }
 {
     match position_of(from, phi.labels()) {
-        Some(place) => operand_at(phi.operands(), place),
+        Some(place) => phi.operand_at(place),
         None => Operand::Null,
     }
 }

@@ -6,9 +6,8 @@ use Rattle.std.proofs.lemmas.Option.{none-some, same_Some, slice_get_within}
 use Rattle.ir_ast.specs.declared.ops.Operand.{Operand}
 use Rattle.ir_ast.specs.declared.ops.Operand.TheVariants.{Int}
 use Rattle.ir_ast.specs.declared.ops.Op.{Op}
-use Rattle.ir_ast.specs.declared.ops.Op.TheVariants.{Statepoint, Phi}
+use Rattle.ir_ast.specs.declared.ops.Op.TheVariants.{Phi}
 use Rattle.ir_ast.specs.Funcs.{Function}
-use Rattle.ir_ast.specs.Faults.GroupShape.{is_statepoint}
 use Rattle.ir_ast.specs.Faults.PhiEdges.{is_phi}
 use Rattle.definite_assign.proofs.TextLemmas.{one_block, one_place}
 use Rattle.object_meaning.specs.Lines.{Line}
@@ -22,7 +21,7 @@ use Rattle.pair_facts.specs.Paths.{pairs_at, Arrives, At, Stands, Misses}
 use Rattle.pair_facts.proofs.FreshLaws.{int, arrives_sound}
 use Rattle.pair_facts.proofs.PlaceLaws.{no_head_before}
 use Rattle.fact_tables.proofs.InstLemmas.{count_lines}
-use Rattle.base_facts.proofs.SettleLemmas.{start_front, head_stands}
+use Rattle.base_facts.proofs.SettleLemmas.{start_front, head_stands, statepoint_apart}
 use Rattle.place_facts.specs.declared.facts.Question.{Question}
 use Rattle.place_facts.specs.Spots.{IsNumbered}
 use Rattle.place_facts.specs.Before.{Comes, Before, phi, group, line, IsAskable}
@@ -54,10 +53,6 @@ one_spot func number block place other there is again =
     (same, one_place func other there block place same text)
 
 -- ---- operators
-
-statepoint_apart : (op : Op) → is_statepoint op ≡ true → is_member op ≡ false
-statepoint_apart (Statepoint id callee types) is = refl
-statepoint_apart op is = absurd (false≢true is)
 
 phi_apart : (op : Op) → is_phi op ≡ true → is_member op ≡ false
 phi_apart Phi is = refl
@@ -124,7 +119,7 @@ asks_group func question block place head numbered is =
     asks_for func question block place head question.pointer question.base numbered (record {
       grouped = λ none. absurd (none-some head (sym none ∙ is));
       inside = omega (arith, stands.1, below);
-      outside = statepoint_apart (line_in (lines_at func block) head).inst.op stands.0;
+      outside = (statepoint_apart (line_in (lines_at func block) head).inst.op stands.0).0;
       stands = λ holds pairs before. at_stands (before_group func block place head pairs is before) holds;
       misses = λ fails. (pairs_at (lines_at func block) fails.front head, group block place head _ is (record { front = fails.front; arrives = fails.arrives; is = refl }), fails.misses);
     })

@@ -1,9 +1,9 @@
 -- What stands before the phis of a block, beside what stands behind them; and that on the path that comes to the block first
 -- nothing stands of what they give.
-use Rattle.std.proofs.Common.{◌≡◌, ◌∙◌, ◌⊎◌, inl, inr, ℕ, zero, suc, ◌+◌, ◌≤◌, cond, Bool, true, false, List, [], ◌∷◌, Option, Some, None, refl, ap, sym, subst, slice_get, length, arith}
-use Rattle.std.specs.Prelude.{◌==◌, ◌&&◌, slice_index, is_some}
+use Rattle.std.proofs.Common.{◌≡◌, ◌∙◌, ◌⊎◌, inl, inr, ℕ, zero, suc, ◌≤◌, cond, Bool, true, false, List, [], ◌∷◌, Option, Some, None, refl, ap, sym, subst, slice_get, length, arith}
+use Rattle.std.specs.Prelude.{◌&&◌, slice_index, is_some}
 use Rattle.std.specs.Option.{option_map_or}
-use Rattle.std.proofs.lemmas.Bool.{false≢true, cases_Bool, cases_eq, cases_lt, eqb-true}
+use Rattle.std.proofs.lemmas.Bool.{false≢true, cases_Bool, cases_eq, cases_lt}
 use Rattle.std.proofs.lemmas.List.{get_or_past}
 use Rattle.std.proofs.lemmas.Option.{none-some, same_Some, slice_get_past}
 use Rattle.ir_ast.specs.declared.ops.Operand.{Operand}
@@ -16,6 +16,7 @@ use Rattle.ir_cfg.specs.Graphs.{graph_of, Edge}
 use Rattle.object_meaning.specs.Lines.{Line, following, after_all, first_registers}
 use Rattle.object_meaning.specs.TargetRuns.{plain_lines}
 use Rattle.object_meaning.specs.Frames.{is_member}
+use Rattle.object_meaning.proofs.LineLaws.{after_up}
 use Rattle.pair_facts.specs.declared.bases.Base.{Base}
 use Rattle.pair_facts.specs.declared.bases.Base.TheVariants.{Any, Named}
 use Rattle.pair_facts.specs.Lines.{lines_at, line_in, no_line, phis_in, named}
@@ -24,10 +25,11 @@ use Rattle.pair_facts.specs.Paths.{pairs_at_end, Arrives, start, went}
 use Rattle.pair_facts.specs.Segments.{start_at}
 use Rattle.pair_facts.proofs.FreshLaws.{IsSound, arrives_sound, pairs_sound}
 use Rattle.pair_facts.proofs.OwnLaws.{Own, arrives_own, own_along}
-use Rattle.pair_facts.proofs.PlaceLaws.{Leaves, pairs_from_front}
+use Rattle.pair_facts.proofs.PlaceLaws.{pairs_from_front}
 use Rattle.fact_tables.specs.Homes.{GivesAt}
 use Rattle.base_facts.proofs.SettleLemmas.{before_group, value_lost}
 use Rattle.base_facts.proofs.EdgeLemmas.{along_other}
+use Rattle.base_facts.proofs.SourceLemmas.{value_leaves}
 use Rattle.place_facts.specs.Before.{Comes, entry, edge}
 use Rattle.place_facts.specs.Phis.{IsOfPhi, IsBaseOfPhi, IsLeft, IsBaseLeft}
 
@@ -79,17 +81,6 @@ come_own func _ _ (edge from to front arrives leads) = own_along func from (leng
 
 -- ---- lines give no argument
 
-following_high : (next : ℕ) (inst : Instruction) → next ≤ following next inst
-following_high next inst = by (is_some inst.result)
-  where
-    by : (b : Bool) → next ≤ cond b (next + 1) next
-    by true = omega arith
-    by false = omega arith
-
-after_high : (next : ℕ) (insts : List Instruction) → next ≤ after_all next insts
-after_high next [] = omega arith
-after_high next (first ∷ insts) = omega (arith, following_high next first, after_high (following next first) insts)
-
 to_high : (next : ℕ) (insts : List Instruction) (place value : ℕ) → (line_in (plain_lines next insts) place).to ≡ Some value → next ≤ value
 to_high next [] zero value is = absurd (none-some value is)
 to_high next [] (suc place) value is = absurd (none-some value is)
@@ -98,7 +89,7 @@ to_high next (first ∷ insts) zero value is = by (is_some first.result) is
     by : (b : Bool) → cond b (Some next) None ≡ Some value → next ≤ value
     by true own = omega (arith, same_Some next value own)
     by false none = absurd (none-some value none)
-to_high next (first ∷ insts) (suc place) value is = omega (arith, following_high next first, to_high (following next first) insts place value is)
+to_high next (first ∷ insts) (suc place) value is = let up : next ≤ following next first = after_up next (first ∷ []) in omega (arith, up, to_high (following next first) insts place value is)
 
 register_high : (next : ℕ) (blocks : List BasicBlock) (block place value : ℕ)
     → (line_in (plain_lines (slice_index (first_registers next blocks) block) (option_map_or (λ (b : BasicBlock). b.insts) (slice_get blocks block) [])) place).to ≡ Some value → next ≤ value
@@ -108,7 +99,7 @@ register_high next [] (suc block) zero value is = absurd (none-some value is)
 register_high next [] (suc block) (suc place) value is = absurd (none-some value is)
 register_high next (first ∷ blocks) zero place value is = to_high next first.insts place value is
 register_high next (first ∷ blocks) (suc block) place value is =
-    omega (arith, after_high next first.insts, register_high (after_all next first.insts) blocks block place value is)
+    omega (arith, after_up next first.insts, register_high (after_all next first.insts) blocks block place value is)
 
 not_at_entry : (func : Function) (block place value : ℕ) (base : Base) → GivesAt func block place value → at_entry func (named value) base ≡ false
 not_at_entry func block place value base gives =
@@ -116,12 +107,6 @@ not_at_entry func block place value base gives =
     (slice_get_past func.args value (register_high (length func.args) func.blocks block place value gives))
 
 -- ---- the path that comes to the block first
-
-leaves : (line : Line) (value : ℕ) → (line.to ≡ Some value → ⊥) → Leaves line (named value)
-leaves line value none given is = elim (cases_Bool (given == value)) [
-  | inl same ↦ absurd (none (is ∙ ap Some (eqb-true given value same)))
-  | inr other ↦ other
-]
 
 -- a block that doesn't give a value leaves it missed
 end_missed : (func : Function) (block value : ℕ) (front : Pairs) → ((place : ℕ) → GivesAt func block place value → ⊥) → front (named value) Any ≡ false
@@ -131,10 +116,10 @@ end_missed func block value front none missed =
     let outside : is_member (line_in lines (length lines)).inst.op ≡ false = ap (λ (l : Line). is_member l.inst.op) (get_or_past lines (length lines) no_line (omega arith)) in
     elim (cases_lt 0 (start_at lines (length lines))) [
       | inl some ↦ before_group lines front (length lines) (named value) Any some
-          (λ at low high. leaves (line_in lines at) value (none at))
+          (λ at low high. value_leaves (line_in lines at) value (none at))
           (λ head is. value_lost lines (length lines) value head Any outside is (λ at low high given. none at given))
       | inr plain ↦ pairs_from_front lines front (length lines) (named value) Any (omega (arith, plain))
-          (λ place past low. (leaves (line_in lines place) value (none place), λ given is. refl))
+          (λ place past low. (value_leaves (line_in lines place) value (none place), λ given is. refl))
           ∙ missed
     ]
 

@@ -5,14 +5,13 @@ use Rattle.std.proofs.lemmas.Option.{same_Some}
 use Rattle.ir_ast.specs.declared.ops.Operand.{Operand}
 use Rattle.ir_ast.specs.Funcs.{Function}
 use Rattle.object_meaning.specs.Jumps.{phi_count}
-use Rattle.pair_facts.specs.declared.bases.Base.TheVariants.{Named}
 use Rattle.pair_facts.specs.Lines.{lines_at, named}
 use Rattle.fact_tables.specs.declared.homes.Home.{Home}
 use Rattle.fact_tables.specs.Homes.{home_at, home_in, KnowsHomes}
 use Rattle.fact_tables.proofs.TableLemmas.{home_found}
 use Rattle.base_facts.specs.Edges.{FindsPhi}
 use Rattle.base_facts.proofs.EdgeLemmas.{along_other, finds_phi, finds_no_phi}
-use Rattle.place_facts.specs.Phis.{IsOfPhi, IsBaseOfPhi, IsLeft, IsBaseLeft}
+use Rattle.place_facts.specs.Phis.{IsOfPhi, IsLeft}
 
 abbrev IsKnown : Function → ℕ → Operand → Bool → Type 0
 IsKnown func block operand answer = MatchBool answer (IsOfPhi func block operand) (IsLeft (lines_at func block) operand)

@@ -3,9 +3,8 @@
 ghost use Rattle.std.specs.Prelude.{◌≡◌, ◌<◌, ◌≤◌, None, length, nat_lt, slice_get};
 ghost use Rattle.ir_ast.specs.declared.ops.Operand.TheVariants.{Int};
 ghost use Rattle.pair_facts.specs.declared.bases.Base.TheVariants.{Any};
-ghost use Rattle.object_meaning.specs.Frames.{is_member};
 ghost use Rattle.object_meaning.specs.Jumps.{phi_count};
-ghost use Rattle.pair_facts.specs.Lines.{lines_at, line_in, head_at};
+ghost use Rattle.pair_facts.specs.Lines.{lines_at, head_at};
 ghost use Rattle.fact_tables.specs.Tables.{AreTables, IsPlace};
 ghost use Rattle.place_facts.specs.Spots.{IsNumbered, KnowsSpots};
 ghost use Rattle.place_facts.specs.Asks.{IsAskOf, AsksFor, ask_at};
@@ -14,8 +13,9 @@ use crate::facts::Question;
 use crate::phis::{is_base_of_phi, is_of_phi};
 use crate::spots::Spot;
 use base_facts::Ask;
+use fact_tables::insts::inst_at;
 use fact_tables::tables::{Tables, front_of, head_at};
-use ir_ast::{Func, Inst, Op, Operand};
+use ir_ast::{Func, Operand};
 use pair_facts::Base;
 use sp_ids::BlockId;
 
@@ -96,7 +96,7 @@ fn ask_at_line(func: &Func, spot: Spot, question: Question) -> Option<Ask>
     requires none { head_at (lines_at func.now.content spot.block) spot.place ≡ None }
     ensures { IsAskOf func.now.content question result }
 {
-    if is_member(inst_at(func, spot.block, spot.place)) {
+    if inst_at(func, spot.block, spot.place).op().is_member() {
         None
     } else {
         Some(ask(
@@ -107,20 +107,6 @@ fn ask_at_line(func: &Func, spot: Spot, question: Question) -> Option<Ask>
             question.base,
         ))
     }
-}
-
-fn inst_at(func: &Func, block: usize, place: usize) -> &Inst
-    requires block { block < length func.now.content.blocks }
-    requires place { place < length (lines_at func.now.content block) }
-    ensures { result.now ≡ (line_in (lines_at func.now.content block) place).inst }
-{
-    &func.blocks()[block].insts()[place]
-}
-
-fn is_member(inst: &Inst) -> bool
-    ensures { result ≡ is_member inst.now.op }
-{
-    matches!(inst.op(), Op::GcResult | Op::GcRelocate)
 }
 
 fn ask(func: &Func, block: usize, place: usize, pointer: Operand, base: Base) -> Ask

@@ -5,3 +5,4 @@ mod since;
 mod split;
 
 pub use since::Since;
+pub use split::is_reached;

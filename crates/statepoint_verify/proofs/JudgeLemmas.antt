@@ -10,10 +10,9 @@ use Rattle.list_laws.proofs.Places.{get_some}
 use Rattle.list_laws.proofs.Contents.{contains_none, contains_first, contains_one, contains_cons, contains_get, get_contained, all_contained, contains_joined}
 use Rattle.ir_ast.specs.declared.ops.Operand.{Operand}
 use Rattle.ir_ast.specs.declared.ops.Op.{Op}
-use Rattle.ir_ast.specs.declared.ops.Op.TheVariants.{Statepoint, GcResult, GcRelocate}
+use Rattle.ir_ast.specs.declared.ops.Op.TheVariants.{GcResult, GcRelocate}
 use Rattle.ir_ast.specs.Insts.{Instruction}
 use Rattle.ir_ast.specs.Funcs.{Function, instructions_of}
-use Rattle.ir_ast.specs.Faults.GroupShape.{is_statepoint}
 use Rattle.object_meaning.specs.Lines.{Line}
 use Rattle.object_meaning.specs.Frames.{is_member}
 use Rattle.pair_facts.specs.declared.bases.Base.{Base}
@@ -25,7 +24,7 @@ use Rattle.pair_facts.specs.Faults.{IsStale, IsLoose}
 use Rattle.base_facts.specs.declared.asks.Ask.{Ask}
 use Rattle.base_facts.specs.Answers.{IsAskable, IsAnswered}
 use Rattle.fact_tables.proofs.InstLemmas.{insts_within, count_lines}
-use Rattle.base_facts.proofs.SettleLemmas.{head_stands}
+use Rattle.base_facts.proofs.SettleLemmas.{head_stands, statepoint_apart}
 use Rattle.used_pairs.specs.declared.uses.UsedPair.{UsedPair}
 use Rattle.used_pairs.specs.Lists.{use_in, IsUse}
 use Rattle.statepoint_verify.specs.declared.marks.Mark.{Mark}
@@ -43,10 +42,6 @@ pub record IsPlaced (func : Function) (block place at : ℕ) : Type 0 where
   pub place_inside : place < length (lines_at func block)
   pub at_inside : at < length (lines_at func block)
   pub outside : is_member (line_in (lines_at func block) at).inst.op ≡ false
-
-statepoint_apart : (op : Op) → is_statepoint op ≡ true → is_member op ≡ false
-statepoint_apart (Statepoint id callee types) h = refl
-statepoint_apart op h = absurd (false≢true h)
 
 checked_apart : (op : Op) (inst : Instruction) (pair : Use) → Contains (checked op inst) pair → is_member op ≡ false
 checked_apart GcResult inst pair there = absurd (contains_none pair there)
@@ -83,7 +78,7 @@ placed func block place _ _ _ (relocates head line is) =
       block_inside = block_within func block place below;
       place_inside = below;
       at_inside = omega (arith, below, own.1);
-      outside = statepoint_apart (line_in lines head).inst.op own.0;
+      outside = (statepoint_apart (line_in lines head).inst.op own.0).0;
     }
 placed func block place _ _ _ (checks line pair stands inside) = placed_at func block place line stands (checked_apart line.inst.op line.inst pair inside)
 placed func block place _ _ _ (compares line pair stands inside) = placed_at func block place line stands (compared_apart line.inst.op line.inst pair inside)

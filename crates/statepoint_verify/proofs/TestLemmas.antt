@@ -1,11 +1,10 @@
 -- The faults that the text decides, by their tests.
-use Rattle.std.proofs.Common.{◌≡◌, ◌∙◌, inl, inr, ℕ, ◌-◌, ◌<◌, Bool, true, false, not, List, [], ◌∷◌, Option, Some, None, refl, ap, sym, subst, length}
-use Rattle.std.specs.Prelude.{◌&&◌, ◌||◌, nat_eq, slice_get}
-use Rattle.std.specs.List.{Contains, list_any, position}
+use Rattle.std.proofs.Common.{◌≡◌, ◌∙◌, inl, inr, ℕ, ◌-◌, ◌<◌, Bool, true, false, not, List, Option, Some, None, refl, ap, sym, subst, length}
+use Rattle.std.specs.Prelude.{◌&&◌, nat_eq, slice_get}
+use Rattle.std.specs.List.{list_any, position}
 use Rattle.std.specs.Option.{option_map_or}
 use Rattle.std.proofs.lemmas.Bool.{false≢true, cases_Bool, not-true, not_from_false, and_parts, and_from}
-use Rattle.std.proofs.lemmas.Option.{none-some, same_Some, slice_get-get_or, get_or_from_slice_get}
-use Rattle.list_laws.proofs.Contents.{contains_none, contains_first, contains_later, contains_cons}
+use Rattle.std.proofs.lemmas.Option.{none-some, same_Some, slice_get-get_or}
 use Rattle.ir_ast.specs.declared.types.Ty.{Ty}
 use Rattle.ir_ast.specs.declared.ops.Callee.{Callee}
 use Rattle.ir_ast.specs.declared.ops.Callee.TheVariants.{Check}
@@ -15,6 +14,7 @@ use Rattle.ir_ast.specs.declared.ops.Op.{Op}
 use Rattle.ir_ast.specs.declared.ops.Op.TheVariants.{Call}
 use Rattle.ir_ast.specs.Insts.{Instruction}
 use Rattle.ir_ast.specs.Callees.{is_leaf}
+use Rattle.ir_ast.specs.Ops.{is_call}
 use Rattle.ir_ast.specs.Types.{is_pointer}
 use Rattle.ir_ast.specs.Faults.GroupShape.{entries_of, is_statepoint}
 use Rattle.object_meaning.specs.Lines.{Line}
@@ -25,7 +25,7 @@ use Rattle.pair_facts.specs.Faults.{IsOpenGroup, IsUnchecked, IsPlainCall, IsLos
 use Rattle.pair_facts.proofs.PlaceLaws.{head_here}
 use Rattle.fact_tables.proofs.TableLemmas.{last_line}
 use Rattle.fact_tables.specs.declared.groups.Group.{Group}
-use Rattle.statepoint_verify.specs.Tests.{checks_by, is_open_entry, is_open_in, is_open, is_unchecked_at, is_unchecked, is_plain, is_plain_at, is_lost, loses}
+use Rattle.statepoint_verify.specs.Tests.{checks_by, is_open_entry, is_open_in, is_open, is_unchecked_at, is_unchecked, is_plain_at, is_lost, loses}
 use Rattle.fact_tables.specs.Groups.{IsKept, IsGroup, keeps_value}
 use Rattle.statepoint_verify.specs.Kept.{opens_by, is_kept_by, is_lost_by}
 use Rattle.object_meaning.proofs.LineLaws.{line_is}
@@ -99,7 +99,7 @@ record IsWaiting (op : Op) : Type 0 where
   is : op ≡ Call callee types
   waits : is_leaf callee ≡ false
 
-waiting : (op : Op) → is_plain op ≡ true → IsWaiting op
+waiting : (op : Op) → is_call op ≡ true → IsWaiting op
 waiting (Call callee types) h = record { callee = callee; types = types; is = refl; waits = not-true (is_leaf callee) h }
 waiting op h = absurd (false≢true h)
 
@@ -110,7 +110,7 @@ plain_found lines place below h =
 
 pub plain_tests : (lines : List Line) (place : ℕ) → IsPlainCall lines place → is_plain_at lines place ≡ true
 plain_tests lines place is =
-    ap (λ (line : Line). is_plain line.inst.op) (line_is lines place is.line is.stands) ∙ ap is_plain is.op ∙ not_from_false (is_leaf is.callee) is.waits
+    ap (λ (line : Line). is_call line.inst.op) (line_is lines place is.line is.stands) ∙ ap is_call is.op ∙ not_from_false (is_leaf is.callee) is.waits
 
 -- ---- lost values
 

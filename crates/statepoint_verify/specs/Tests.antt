@@ -9,7 +9,7 @@ use Rattle.ir_ast.specs.declared.ops.Op.{Op}
 use Rattle.ir_ast.specs.declared.ops.Op.TheVariants.{Call}
 use Rattle.ir_ast.specs.Insts.{Instruction}
 use Rattle.ir_ast.specs.Types.{is_pointer}
-use Rattle.ir_ast.specs.Callees.{is_leaf}
+use Rattle.ir_ast.specs.Ops.{is_call}
 use Rattle.ir_ast.specs.Cells.{kind_of}
 use Rattle.ir_ast.specs.Faults.GroupShape.{is_statepoint}
 use Rattle.object_meaning.specs.Lines.{Line}
@@ -51,12 +51,8 @@ is_unchecked lines place =
 
 -- ---- a call outside a statepoint
 
-abbrev pub is_plain : Op → Bool
-is_plain (Call callee types) = not (is_leaf callee)
-is_plain op = false
-
 abbrev pub is_plain_at : List Line → ℕ → Bool
-is_plain_at lines place = is_plain (line_in lines place).inst.op
+is_plain_at lines place = is_call (line_in lines place).inst.op
 
 -- ---- a value of a bundle that no relocate keeps
 

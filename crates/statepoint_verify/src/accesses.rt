@@ -8,7 +8,7 @@ ghost use Rattle.pair_facts.specs.Lines.{lines_at};
 ghost use Rattle.pair_facts.specs.Uses.{accessed_at, is_checked};
 ghost use Rattle.statepoint_verify.specs.Tests.{checks_by, is_check_of, is_unchecked};
 
-use crate::insts::{inst_at, operand_at, same_operand};
+use fact_tables::insts::inst_at;
 use ir_ast::{Callee, Func, Inst, Op, Operand, Ty};
 
 /// Whether the line at a place is a load or a store without a check of its address and kind directly before it.
@@ -28,8 +28,8 @@ fn accessed_at(inst: &Inst) -> Option<Operand>
     ensures { result ≡ accessed_at inst.now.op inst.now }
 {
     match inst.op() {
-        Op::Load => Some(operand_at(inst.operands(), 0)),
-        Op::Store => Some(operand_at(inst.operands(), 1)),
+        Op::Load => Some(inst.operand_at(0)),
+        Op::Store => Some(inst.operand_at(1)),
         _ => None,
     }
 }
@@ -50,8 +50,8 @@ fn checks(inst: &Inst, address: Operand, ty: Ty) -> bool
     ensures { result ≡ checks_by address ty inst.now }
 {
     is_check(inst.op())
-        && same_operand(operand_at(inst.operands(), 1), address)
-        && same_operand(operand_at(inst.operands(), 2), Operand::Int(kind_of(ty)))
+        && inst.operand_at(1).is_same(address)
+        && inst.operand_at(2).is_same(Operand::Int(kind_of(ty)))
 }
 
 fn is_check(op: &Op) -> bool

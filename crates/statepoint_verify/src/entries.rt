@@ -9,11 +9,8 @@ ghost use Rattle.statepoint_verify.specs.Tests.{is_open, loses};
 ghost use Rattle.fact_tables.specs.Groups.{IsGroupOf};
 ghost use Rattle.statepoint_verify.specs.Kept.{opens_by, is_kept_by, is_lost_by};
 
-use crate::insts::{
-    entries_of, index_at, inst_at, is_null, is_pointer, is_relocate, is_statepoint, operand_at,
-    same_operand,
-};
 use fact_tables::groups::{Group, Kept};
+use fact_tables::insts::{inst_at, operand_at};
 use ir_ast::{Func, Inst, Operand, Ty};
 
 /// Whether the line at a place is a relocate whose base entry isn't `null` and is kept by no relocate of the group: a later move
@@ -26,7 +23,7 @@ pub(crate) fn is_open(func: &Func, block: usize, place: usize, group: &Option<Gr
 {
     match group {
         Some(group) => opens(
-            entries_of(inst_at(func, block, group.head)),
+            inst_at(func, block, group.head).live_entries(),
             inst_at(func, block, place),
             &group.kept,
         ),
@@ -37,9 +34,9 @@ pub(crate) fn is_open(func: &Func, block: usize, place: usize, group: &Option<Gr
 fn opens(entries: &[Operand], inst: &Inst, kept: &Kept) -> bool
     ensures { result ≡ opens_by entries.now inst.now kept.now.bases.keys }
 {
-    let entry = index_at(inst, 1);
-    is_relocate(inst.op())
-        && !is_null(operand_at(entries, entry as usize))
+    let entry = inst.index_at(1);
+    inst.op().is_relocate()
+        && !operand_at(entries, entry as usize).is_null()
         && !kept.bases.contains(&entry)
 }
 
@@ -59,7 +56,7 @@ pub(crate) fn loses(func: &Func, block: usize, place: usize, group: &Option<Grou
 fn loses_by(inst: &Inst, kept: &Kept) -> bool
     ensures { result ≡ (is_statepoint inst.now.op && list_any (is_lost_by (entries_of inst.now) kept.now.values.keys) inst.now.bundle) }
 {
-    is_statepoint(inst.op()) && any_lost(entries_of(inst), kept, inst.bundle())
+    inst.op().is_statepoint() && any_lost(inst.live_entries(), kept, inst.bundle())
 }
 
 fn any_lost(entries: &[Operand], kept: &Kept, bundle: &[(Ty, Operand)]) -> bool
@@ -71,7 +68,7 @@ fn any_lost(entries: &[Operand], kept: &Kept, bundle: &[(Ty, Operand)]) -> bool
 fn is_lost(entries: &[Operand], kept: &Kept, entry: &(Ty, Operand)) -> bool
     ensures { result ≡ is_lost_by entries.now kept.now.values.keys entry.now }
 {
-    is_pointer(&entry.0) && !is_kept(entries, kept, entry.1)
+    entry.0.is_pointer() && !is_kept(entries, kept, entry.1)
 }
 
 fn is_kept(entries: &[Operand], kept: &Kept, operand: Operand) -> bool
@@ -95,7 +92,5 @@ fn is_entry_kept(entry: Option<usize>, kept: &Kept) -> bool
 fn first_entry(entries: &[Operand], operand: Operand) -> Option<usize>
     ensures { result ≡ position (λ entry. same_operand entry operand) entries.now }
 {
-    entries
-        .iter()
-        .position(|entry| same_operand(*entry, operand))
+    entries.iter().position(|entry| entry.is_same(operand))
 }

@@ -4,7 +4,6 @@
 mod accesses;
 mod entries;
 mod faults;
-mod insts;
 mod least;
 mod lines;
 mod marks;

@@ -1,20 +1,20 @@
 //! Faults that the text of a line decides.
 
-ghost use Rattle.std.specs.Prelude.{◌≡◌, ◌<◌, ◌+◌, ◌↔◌, Some, length, slice_get, IfOk, IsTrue};
+ghost use Rattle.std.specs.Prelude.{◌≡◌, ◌<◌, ◌+◌, Some, length, slice_get, IfOk};
 ghost use Rattle.ir_cfg.specs.Graphs.{graph_of};
-ghost use Rattle.ir_cfg.specs.Paths.{Reached};
 ghost use Rattle.pair_facts.specs.Lines.{lines_at, head_at};
 ghost use Rattle.fact_tables.specs.Groups.{IsGroupOf};
 ghost use Rattle.statepoint_verify.specs.Marks.{TextFault, AreAll, AreMarked, line_marked};
 
 use crate::accesses::is_unchecked;
 use crate::entries::{is_open, loses};
-use crate::insts::{inst_at, is_plain};
 use crate::marks::{Mark, mark_where};
 use fact_tables::groups::{Group, group_here};
+use fact_tables::insts::inst_at;
 use ir_ast::{Block, Func};
 use ir_cfg::Cfg;
-use sp_ids::{BlockId, Memory};
+use since_statepoint::is_reached;
+use sp_ids::Memory;
 use std::alloc::Global;
 
 /// The faults of a function that its text alone decides.
@@ -66,20 +66,11 @@ fn mark_line(
 {
     let open = is_open(func, block, place, group);
     let unchecked = is_unchecked(func, block, place);
-    let plain = is_plain(inst_at(func, block, place).op());
+    let plain = inst_at(func, block, place).op().is_call();
     let lost = loses(func, block, place, group);
     mark_where(reached, open, block, place, 2, marks)?;
     mark_where(reached, unchecked, block, place, 3, marks)?;
     mark_where(reached, plain, block, place, 6, marks)?;
     mark_where(true, lost, block, place, 7, marks)?;
     Ok(())
-}
-
-fn is_reached(func: &Func, cfg: &Cfg, number: usize) -> bool
-    requires edges { cfg.now ≡ graph_of func.now.content }
-    requires block { number < length func.now.content.blocks }
-    ensures { IsTrue result ↔ Reached (graph_of func.now.content) number }
-{
-    let _blocks = func.blocks();
-    cfg.reached(BlockId(number as u32))
 }

@@ -1,10 +1,10 @@
 //! The pointers that a line lets out: stored, passed or answered.
 
 ghost use Rattle.std.specs.Prelude.{◌≡◌, IfOk};
-ghost use Rattle.pair_facts.specs.Lines.{operand_at};
 ghost use Rattle.pair_facts.specs.Uses.{pointers_of, passed_to, escaping};
 ghost use Rattle.used_pairs.specs.Places.{is_pointer_at};
 
+use fact_tables::insts::operand_at;
 use ir_ast::{Callee, Inst, Op, Operand, Ty};
 use sp_ids::Memory;
 use std::alloc::Global;
@@ -14,15 +14,12 @@ pub(crate) fn escaping(alloc: Global, inst: &Inst) -> Result<Vec<Operand>, Memor
     ensures { IfOk result (λ operands. operands.items ≡ escaping inst.now.op inst.now) }
 {
     match inst.op() {
-        Op::Store => pointers_of(alloc, &[*inst.ty()], &[operand_at(inst.operands(), 0)]),
-        Op::Ret => pointers_of(alloc, &[*inst.ty()], &[operand_at(inst.operands(), 0)]),
+        Op::Store => pointers_of(alloc, &[*inst.ty()], &[inst.operand_at(0)]),
+        Op::Ret => pointers_of(alloc, &[*inst.ty()], &[inst.operand_at(0)]),
         Op::Icmp(_) => pointers_of(
             alloc,
             &[*inst.ty(), *inst.ty()],
-            &[
-                operand_at(inst.operands(), 0),
-                operand_at(inst.operands(), 1),
-            ],
+            &[inst.operand_at(0), inst.operand_at(1)],
         ),
         Op::Call { callee, types } => passed_to(alloc, *callee, types.list(), inst.operands()),
         Op::Statepoint { callee, types, .. } => {
@@ -30,12 +27,6 @@ pub(crate) fn escaping(alloc: Global, inst: &Inst) -> Result<Vec<Operand>, Memor
         }
         _ => Ok(Vec::new(alloc)),
     }
-}
-
-pub(crate) fn operand_at(operands: &[Operand], place: usize) -> Operand
-    ensures { result ≡ operand_at operands.now place }
-{
-    operands.get(place).copied().unwrap_or(Operand::Int(0))
 }
 
 fn passed_to(
@@ -70,7 +61,7 @@ fn is_pointer_at(types: &[Ty], place: usize) -> bool
     ensures { result ≡ is_pointer_at types.now place }
 {
     match types.get(place) {
-        Some(ty) => matches!(ty, Ty::Ptr),
+        Some(ty) => ty.is_pointer(),
         None => false,
     }
 }

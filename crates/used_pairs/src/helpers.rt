@@ -5,7 +5,7 @@ ghost use Rattle.ir_ast.specs.Operands.{callee_of};
 ghost use Rattle.pair_facts.specs.Uses.{use_at};
 ghost use Rattle.used_pairs.specs.Places.{pair_of, IsChecked, AreCompared};
 
-use crate::escaping::operand_at;
+use fact_tables::insts::operand_at;
 use ir_ast::{Callee, Inst, Op, Operand};
 
 /// A pointer, and the base that a line takes for it.

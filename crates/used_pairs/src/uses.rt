@@ -7,8 +7,9 @@ ghost use Rattle.pair_facts.specs.Uses.{escaping};
 ghost use Rattle.used_pairs.specs.Lists.{IsUse, AreUsed, used_of, own_used, of_head, relocated_used, checked_used, compared_used, listed};
 
 use crate::escaping::escaping;
-use crate::groups::{entries_pair, head_here, is_relocate};
+use crate::groups::entries_pair;
 use crate::helpers::{Pair, checked, compared};
+use fact_tables::notes::head_here;
 use ir_ast::{Block, Func, Inst, Operand};
 use sp_ids::Memory;
 use std::alloc::Global;
@@ -132,7 +133,7 @@ fn add_entries(
 ) -> Result<(), Memory>
     ensures { IfOk result (λ _. used.new.items ≡ used.old.items ++ of_head block place inst.now (Some statepoint.now) head) }
 {
-    if is_relocate(inst.op()) {
+    if inst.op().is_relocate() {
         used.push(used_pair(block, place, head, 2, entries_pair(inst, statepoint)))?;
         Ok(())
     } else {

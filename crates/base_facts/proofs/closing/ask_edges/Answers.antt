@@ -1,15 +1,12 @@
-use Rattle.std.proofs.Common.{◌≡◌, ◌∙◌, ℕ, false, List, map, sym, ap, subst, slice_get, length, arith}
+use Rattle.std.proofs.Common.{◌≡◌, ◌∙◌, ℕ, List, map, sym, ap, subst, slice_get, length, arith}
 use Rattle.std.specs.Prelude.{slice_index_or}
 use Rattle.std.proofs.lemmas.List.{length-map}
 use Rattle.std.proofs.lemmas.Option.{slice_get-get_or}
 use Rattle.list_laws.proofs.Places.{get_map}
 use Rattle.sp_ids.specs.declared.ids.BlockId.{BlockId}
 use Rattle.ir_cfg.specs.Graphs.{Graph, graph_of, preds_of, block_at}
-use Rattle.pair_facts.specs.Pairs.{at_entry}
-use Rattle.base_facts.specs.Facts.{operand_in, base_in}
-use Rattle.base_facts.specs.Asked.{MissesFact}
 use Rattle.base_facts.specs.Closing.{AskedBefore}
-use Rattle.base_facts.proofs.ClosingLemmas.{one_fact, misses_entry, before_more, front_closed}
+use Rattle.base_facts.proofs.ClosingLemmas.{before_more, front_closed}
 use Rattle.base_facts.proofs.closing.ask_edges.Goals as goal
 use Rattle.ir_cfg.proofs.PredLaws.{pred_of_edge, edge_of_pred}
 

@@ -1,4 +1,4 @@
-use Rattle.std.proofs.Common.{◌≡◌, ◌∙◌, ◌≤◌, List, Option, Some, None, ap, sym, length}
+use Rattle.std.proofs.Common.{◌≡◌, ◌∙◌, List, Option, Some, None, ap, sym, length}
 use Rattle.fact_tables.specs.declared.homes.Home.{Home}
 use Rattle.fact_tables.specs.Homes.{home_in}
 use Rattle.base_facts.proofs.SourceLemmas.{no_home, line_home}

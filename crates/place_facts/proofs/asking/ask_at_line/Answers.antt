@@ -17,7 +17,7 @@ inst_at-requires-clause-place c =
 pub returns-then-is_member : goal.returns-then-is_member
 returns-then-is_member c =
     let member : is_member (line_in (lines_at c.args.func.now.content c.args.spot.block) c.args.spot.place).inst.op ≡ true =
-    ap (λ (inst : Instruction). is_member inst.op) (sym c.inst_at.ensures) ∙ sym c.is_member.ensures ∙ c.if-is_member.true in
+    ap (λ (inst : Instruction). is_member inst.op) (sym c.inst_at.ensures) ∙ ap is_member (sym c.op.ensures) ∙ sym c.is_member.ensures ∙ c.if-is_member.true in
     not_askable c.args.func.now.content c.args.question.place c.args.spot.block c.args.spot.place c.requires.spot c.requires.none member
 
 pub ask-requires : goal.ask-requires
@@ -28,6 +28,6 @@ ask-requires c =
 pub returns-else-is_member : goal.returns-else-is_member
 returns-else-is_member c =
     let apart : is_member (line_in (lines_at c.args.func.now.content c.args.spot.block) c.args.spot.place).inst.op ≡ false =
-    ap (λ (inst : Instruction). is_member inst.op) (sym c.inst_at.ensures) ∙ sym c.is_member.ensures ∙ c.if-is_member.false in
+    ap (λ (inst : Instruction). is_member inst.op) (sym c.inst_at.ensures) ∙ ap is_member (sym c.op.ensures) ∙ sym c.is_member.ensures ∙ c.if-is_member.false in
     subst (AsksFor c.args.func.now.content c.args.question) (sym c.ask.ensures)
     (asks_line c.args.func.now.content c.args.question c.args.spot.block c.args.spot.place c.requires.spot c.requires.past c.requires.none apart)

@@ -21,7 +21,7 @@ returns-in-Some c =
     let is : IsGroup lines (head_at lines c.args.place) c.in-Some.group = subst (IsGroupOf lines (head_at lines c.args.place)) c.in-Some.is c.requires.group in
     let keys = c.in-Some.group.kept.bases.keys in
     c.opens.ensures
-    ∙ ap (λ (entries : List Operand). opens_by entries c.inst_at-in-Some.result.now keys) (c.entries_of.ensures ∙ ap entries_of c.inst_at.ensures)
+    ∙ ap (λ (entries : List Operand). opens_by entries c.inst_at-in-Some.result.now keys) (c.live_entries.ensures ∙ ap entries_of c.inst_at.ensures)
     ∙ ap (λ (inst : Instruction). opens_by (entries_of (line_in lines c.in-Some.group.head).inst) inst keys) c.inst_at-in-Some.ensures
     ∙ opens_here lines c.args.place c.in-Some.group is
 
