@@ -1,7 +1,6 @@
 -- The entry of a phi for an edge, and the registers on an edge.
-use Rattle.std.proofs.Common.{◌≡◌, ◌==◌, ℕ, zero, suc, ◌+◌, ◌<◌, ◌≤◌, true, List, [], ◌∷◌, ◌++◌, length, map, take, refl, sym, ap, subst, ◌∙◌, arith}
+use Rattle.std.proofs.Common.{◌≡◌, ◌==◌, ℕ, zero, suc, ◌+◌, ◌<◌, ◌≤◌, List, [], ◌∷◌, ◌++◌, map, take, refl, ap, ◌∙◌, arith}
 use Rattle.std.specs.Prelude.{Option, Some, slice_get}
-use Rattle.std.specs.List.{position}
 use Rattle.std.specs.Option.{option_map_or}
 use Rattle.std.proofs.lemmas.Bool.{eqb-true}
 use Rattle.std.proofs.lemmas.List.{map-append}
@@ -13,7 +12,7 @@ use Rattle.ir_ast.specs.declared.ops.Operand.{Operand}
 use Rattle.ir_ast.specs.Funcs.{Function}
 use Rattle.ir_ast.specs.Insts.{Instruction}
 use Rattle.ir_ast.specs.Objects.{Datum}
-use Rattle.ir_cfg.specs.DefiniteUses.{Defines, Stands}
+use Rattle.ir_cfg.specs.DefiniteUses.{Stands}
 use Rattle.object_meaning.specs.BlockLines.{lines_at}
 use Rattle.object_meaning.specs.Jumps.{incoming, phi_write}
 use Rattle.object_meaning.specs.Lines.{Line}

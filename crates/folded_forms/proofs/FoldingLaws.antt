@@ -1,5 +1,5 @@
 -- The equations of a table in which only what reads the same stands for a value are known values.
-use Rattle.std.proofs.Common.{◌≡◌, ℕ, zero, suc, ◌<◌, ◌≤◌, Bool, true, false, if◌then◌else◌, List, [], ◌∷◌, length, map, take, refl, sym, ap, subst, ◌∙◌, inl, inr, ◌⊎◌, arith}
+use Rattle.std.proofs.Common.{◌≡◌, ℕ, suc, ◌<◌, ◌≤◌, Bool, true, false, if◌then◌else◌, List, [], ◌∷◌, length, map, take, refl, sym, ap, subst, ◌∙◌, inl, inr, ◌⊎◌, arith}
 use Rattle.std.specs.Prelude.{Option, Some, Ok, Result, nat_lt, slice_get}
 use Rattle.std.specs.List.{All, Contains, list_all}
 use Rattle.std.proofs.lemmas.Bool.{cases_Bool}
@@ -18,7 +18,7 @@ use Rattle.ir_ast.specs.Layouts.{ObjectLayout}
 use Rattle.ir_ast.specs.Objects.{Datum, number}
 use Rattle.ir_ast.specs.Operands.{is_literal, named, value_in}
 use Rattle.ir_ast.specs.Ops.{is_phi}
-use Rattle.ir_cfg.specs.DefiniteUses.{Defines, Stands, Uses, by_entry, by_line, text_place}
+use Rattle.ir_cfg.specs.DefiniteUses.{Defines, Uses, by_entry, by_line, text_place}
 use Rattle.ir_cfg.specs.Graphs.{Edge, graph_of}
 use Rattle.object_meaning.specs.BlockLines.{lines_at}
 use Rattle.object_meaning.specs.Computing.{computed, value_of_line}
@@ -28,7 +28,7 @@ use Rattle.object_meaning.specs.Registers.{is_set, nothing, operand, put, value}
 use Rattle.base_definite.specs.Comings.{Comes, over_edge}
 use Rattle.base_definite.proofs.base_paths.GivesLaws.{defines_gives}
 use Rattle.base_definite.proofs.base_paths.UndefinedLaws.{Undefined, first_time}
-use Rattle.known_values.specs.Meanings.{AllHold, AreKnown, Holds, IsGiven, Meaning, ReadSame, at_edge, by_line as on_line, by_phi, register}
+use Rattle.known_values.specs.Meanings.{AllHold, Holds, IsGiven, Meaning, ReadSame, at_edge, by_line as on_line, by_phi, register}
 use Rattle.known_values.specs.Onward.{computes}
 use Rattle.known_values.proofs.PlaceLaws.{defined_high, line_at_place, line_from, own_written, writes_own}
 use Rattle.known_values.proofs.WriteLaws.{puts_length}
@@ -38,7 +38,7 @@ use Rattle.folded_forms.specs.Foldings.{Folds, IsFolding, by_choice, by_entries,
 use Rattle.folded_forms.specs.Known.{EntryFrom, FoldingsAreKnown, PhisMeetEdges, meaning_of, meanings_of}
 use Rattle.folded_forms.proofs.EntryLaws.{comes_on, edge_next, edge_other, entry_read, entry_stands}
 use Rattle.folded_forms.proofs.SupportLaws.{chosen_at, no_phi, without}
-use Rattle.folded_forms.proofs.TableLaws.{Goes, goes, gone_apart, gone_high, literal_operands, meaning_at, meaning_names, meaning_reads, meaning_value, operand_used, stays_is, value_other}
+use Rattle.folded_forms.proofs.TableLaws.{goes, gone_apart, gone_high, literal_operands, meaning_at, meaning_names, meaning_reads, meaning_value, operand_used, stays_is, value_other}
 
 -- an operator whose result is a number looks at no layout
 no_layouts : (layouts : List ObjectLayout) (op : Op) (ty : Ty) (first second third : Datum) (literal : ℕ) → computed [] op ty first second third ≡ Ok (number literal)
@@ -49,12 +49,27 @@ no_layouts layouts op ty first second third literal is = is
 same_result : (one other : Datum) → ◌≡◌ {A = Result Datum Trap} (Ok one) (Ok other) → one ≡ other
 same_result one other is = cc
 
+-- where what stands for the operands of an operator reads what they read, and is literals, its result is theirs
+pub literal_given : (layouts : List ObjectLayout) (table : Table) (inst : Instruction) (literal : ℕ) (registers : List Datum)
+    → ((index : ℕ) (each : Operand) → slice_get inst.operands index ≡ Some each → value registers each ≡ value registers (stands_for table each))
+    → list_all is_literal (map (stands_for table) inst.operands) ≡ true → value_of_line [] [] inst.op inst.ty (map (stands_for table) inst.operands) ≡ Ok (number literal)
+    → value_of_line layouts registers inst.op inst.ty inst.operands ≡ Ok (number literal)
+literal_given layouts table inst literal registers reads literals value_is =
+    let now = map (stands_for table) inst.operands in
+    let first = literal_operands table registers inst.operands reads literals 0 in
+    let second = literal_operands table registers inst.operands reads literals 1 in
+    let third = literal_operands table registers inst.operands reads literals 2 in
+    ap (λ (d : Datum). computed layouts inst.op inst.ty d (operand registers inst.operands 1) (operand registers inst.operands 2)) first
+    ∙ (ap (λ (d : Datum). computed layouts inst.op inst.ty (operand [] now 0) d (operand registers inst.operands 2)) second
+    ∙ (ap (λ (d : Datum). computed layouts inst.op inst.ty (operand [] now 0) (operand [] now 1) d) third
+    ∙ no_layouts layouts inst.op inst.ty (operand [] now 0) (operand [] now 1) (operand [] now 2) literal value_is))
+
 module _ (layouts : List ObjectLayout) (func : Function) (table : Table) (folding : IsFolding func table) (defined : UsesAreDefined func) (phis : PhisMeetEdges func) where
   abbrev stands : Operand → Operand
   stands each = stands_for table each
 
   -- where all equations hold, what is used reads what stands for it
-  reads_same : (line block place : ℕ) (registers : List Datum) → AllHold func (meanings_of table) block place registers → (each : Operand)
+  pub reads_same : (line block place : ℕ) (registers : List Datum) → AllHold func (meanings_of table) block place registers → (each : Operand)
       → ((own : ℕ) → each ≡ named own → Uses func line own block place) → value registers each ≡ value registers (stands each)
   reads_same line block place registers all (Value id) used = by (cases_Bool (stays table id.0))
     where
@@ -104,14 +119,7 @@ module _ (layouts : List ObjectLayout) (func : Function) (table : Table) (foldin
     by_literals literal kind literals value_is same = on_line kind (λ registers result room comes all result_is.
         let reads : (index : ℕ) (each : Operand) → slice_get inst.operands index ≡ Some each → value registers each ≡ value registers (stands each) =
         λ index each at. reads_same (text_place func block place) block place registers all each (λ used names. used_here (no_phi_computes inst.op kind) index each at used names) in
-        let first = literal_operands table registers inst.operands reads literals 0 in
-        let second = literal_operands table registers inst.operands reads literals 1 in
-        let third = literal_operands table registers inst.operands reads literals 2 in
-        let there = no_layouts layouts inst.op inst.ty (operand [] (map stands inst.operands) 0) (operand [] (map stands inst.operands) 1) (operand [] (map stands inst.operands) 2) literal value_is in
-        let here : value_of_line layouts registers inst.op inst.ty inst.operands ≡ Ok (number literal) =
-        ap (λ (d : Datum). computed layouts inst.op inst.ty d (operand registers inst.operands 1) (operand registers inst.operands 2)) first
-        ∙ (ap (λ (d : Datum). computed layouts inst.op inst.ty (operand [] (map stands inst.operands) 0) d (operand registers inst.operands 2)) second
-        ∙ (ap (λ (d : Datum). computed layouts inst.op inst.ty (operand [] (map stands inst.operands) 0) (operand [] (map stands inst.operands) 1) d) third ∙ there)) in
+        let here = literal_given layouts table inst literal registers reads literals value_is in
         let result_number : result ≡ number literal = same_result result (number literal) (sym result_is ∙ here) in
         holds_behind registers result room (result_number ∙ sym (ap (value registers) same)))
 

@@ -1,10 +1,10 @@
--- In a source module's functions with their polls, phis stand at the front of blocks other than the entry, and have an entry for each
--- edge; and a table of a function is one of it with its polls.
-use Rattle.std.proofs.Common.{◌≡◌, ◌==◌, ℕ, zero, suc, ◌+◌, ◌<◌, ◌≤◌, Bool, true, false, cond, not, if◌then◌else◌, List, [], ◌∷◌, ◌++◌, length, map, take, drop, refl, sym, ap, subst, ◌∙◌, inl, inr, arith}
+-- In a source module's functions, with their polls and without, phis stand at the front of blocks other than the entry, and have an
+-- entry for each edge; and a table of a function is one of it with its polls.
+use Rattle.std.proofs.Common.{◌≡◌, ◌==◌, ℕ, zero, suc, ◌+◌, ◌<◌, ◌≤◌, Bool, true, false, cond, not, if◌then◌else◌, List, [], ◌∷◌, length, map, take, drop, refl, sym, ap, subst, ◌∙◌, inl, inr, arith}
 use Rattle.std.specs.Prelude.{Option, Some, None, slice_get, slice_index}
 use Rattle.std.specs.List.{position, position_or_len, prefix_len}
 use Rattle.std.specs.Option.{option_map, option_map_or}
-use Rattle.std.proofs.lemmas.Bool.{cases_Bool, eq-eqb, lt-ltb}
+use Rattle.std.proofs.lemmas.Bool.{eq-eqb, lt-ltb}
 use Rattle.std.proofs.lemmas.List.{length-append, length-map}
 use Rattle.std.proofs.lemmas.Option.{none-some, same_Some, slice_get_within}
 use Rattle.list_laws.proofs.Contents.{all_at}
@@ -13,17 +13,21 @@ use Rattle.sp_ids.specs.declared.ids.BlockId.{BlockId}
 use Rattle.ir_ast.specs.declared.modules.Form.TheVariants.{Source}
 use Rattle.ir_ast.specs.declared.ops.Op.{Op}
 use Rattle.ir_ast.specs.declared.ops.Op.TheVariants as ops
+use Rattle.ir_ast.specs.declared.types.Ty.{Ty}
 use Rattle.ir_ast.specs.Blocks.{BasicBlock, EndsAtTerminator}
 use Rattle.ir_ast.specs.Edges.{count_of, edges, targets}
 use Rattle.ir_ast.specs.Faultless.{FunctionHasNoFault}
 use Rattle.ir_ast.specs.Faults.EntryHasPred.{EntryHasNoPred}
 use Rattle.ir_ast.specs.Faults.PhiEdges.{PhiIsRight, PhisAreRight}
+use Rattle.ir_ast.specs.Faults.TypeClash.{Fits}
 use Rattle.ir_ast.specs.Funcs.{Function, phis_of}
 use Rattle.ir_ast.specs.Insts.{Instruction}
 use Rattle.ir_ast.specs.Lines.{IsLine, LineOf}
 use Rattle.ir_ast.specs.Modules.{ModuleContent}
 use Rattle.ir_ast.specs.Ops.{is_phi}
-use Rattle.ir_ast.specs.Values.{Definition, Gives, definitions_of, outcome}
+use Rattle.ir_ast.specs.Operands.{named}
+use Rattle.ir_ast.specs.Values.{Definition, definition_type, definitions_of, value_types}
+use Rattle.ir_ast.specs.Derived.{Derived, by_merge, by_step}
 use Rattle.ir_cfg.specs.DefiniteUses.{Stands}
 use Rattle.ir_cfg.specs.Graphs.{Edge, Graph, block_at, graph_of}
 use Rattle.ir_cfg.specs.SourceModules.{IsSourceModule}
@@ -35,16 +39,22 @@ use Rattle.ir_cfg.proofs.KeepsPaths.{succs_at}
 use Rattle.ir_cfg.proofs.PathLemmas.{edge_within}
 use Rattle.object_meaning.specs.BlockLines.{lines_at}
 use Rattle.object_meaning.specs.Jumps.{phi_count}
-use Rattle.object_meaning.specs.Lines.{Line, following, registers_of}
+use Rattle.object_meaning.specs.Lines.{following, registers_of}
 use Rattle.object_meaning.specs.TargetRuns.{plain_lines}
-use Rattle.base_forms.specs.Polls.{placed, placed_block, poll_call}
+use Rattle.base_forms.specs.Polls.{placed, placed_block}
 use Rattle.base_laws.proofs.FormLaws.{lead_first, lead_polled, phi_splits}
 use Rattle.base_laws.proofs.PlacedLaws.{block_placed, definitions_placed}
 use Rattle.base_laws.proofs.PollLaws.{graph_placed}
 use Rattle.base_definite.proofs.PolledLaws.{source_line}
-use Rattle.folded_forms.specs.Folded.{Table, stands_for, stays}
-use Rattle.folded_forms.specs.Foldings.{Folds, IsFolding}
+use Rattle.folded_forms.specs.Folded.{Table, stands_for}
+use Rattle.folded_forms.specs.Foldings.{IsFolding}
 use Rattle.folded_forms.specs.Known.{EntryFrom, PhisMeetEdges}
+
+-- with the same definitions the same values are derived
+derived_as : (one other : Function) → definitions_of one ≡ definitions_of other → (value : ℕ) → Derived one value → Derived other value
+derived_as one other same _ (by_step value inst gives step) = by_step value inst (sym (ap (λ (all : List Definition). slice_get all value) same) ∙ gives) step
+derived_as one other same _ (by_merge value operand inst gives merge used derived) =
+    by_merge value operand inst (sym (ap (λ (all : List Definition). slice_get all value) same) ∙ gives) merge used (derived_as one other same operand derived)
 
 -- a table of a function is one of it with its polls
 pub folding_placed : (func : Function) (table : Table) → IsFolding func table → IsFolding (placed func) table
@@ -53,6 +63,12 @@ folding_placed func table folding = record {
   arguments = folding.arguments;
   closed = folding.closed;
   each = λ value inst gives gone. folding.each value inst (sym (ap (λ (all : List Definition). slice_get all value) (definitions_placed func)) ∙ gives) gone;
+  typed = λ value ty at.
+      let types : value_types (placed func) ≡ value_types func = ap (map definition_type) (definitions_placed func) in
+      subst (λ (all : List Ty). Fits all (stands_for table (named value)) ty) (sym types)
+      (folding.typed value ty (ap (λ (all : List Ty). slice_get all value) (sym types) ∙ at));
+  derived = λ value to stands derived.
+      derived_as func (placed func) (sym (definitions_placed func)) value (folding.derived value to stands (derived_as (placed func) func (definitions_placed func) to derived));
 }
 
 phi_count_is : (next : ℕ) (insts : List Instruction) → phi_count (plain_lines next insts) ≡ phis_of insts
@@ -141,6 +157,19 @@ module _ (func : Function) (typed : IsTypedFunction Source func) (alone : EntryH
         let inside = first.1 in
         let operand = get_some phi.operands (position_or_len (λ (label : BlockId). label.0 == from) phi.labels) (omega (arith, inside, long)) in
         record { entry = position_or_len (λ (label : BlockId). label.0 == from) phi.labels; operand = operand.0; first = first.0; at = operand.1 }
+
+  pub phis_meet_edges : PhisMeetEdges func
+  phis_meet_edges = record {
+    front = λ number place phi stands is_one.
+        let apart = no_entry number place phi stands is_one in
+        let below = lead_first (stands.block).insts (phi_splits (stands.block).insts (λ before after each whole one. (right number stands.block before after each stands.in_function whole one).first))
+        place phi stands.in_block is_one in
+        let count : phi_count (lines_at func number) ≡ phis_of (stands.block).insts =
+        ap (λ (here : Option BasicBlock). phi_count (plain_lines (slice_index (registers_of func) number) (option_map_or (λ b. b.insts) here []))) stands.in_function
+        ∙ phi_count_is (slice_index (registers_of func) number) (stands.block).insts in
+        (omega (arith, apart), subst (λ (n : ℕ). place < n) (sym count) below);
+    entries = λ number place phi stands is_one from edge. entry_for number place phi stands is_one from edge;
+  }
 
   -- ---- with polls
 

@@ -1,22 +1,20 @@
 -- What is pure, foldable and dead, and what is left of functions, by computation.
-use Rattle.std.proofs.Common.{◌≡◌, ℕ, ◌<◌, true, false, List, [], ◌∷◌, Option, Some, None, codes, refl, inl, inr, arith}
-use Rattle.std.specs.Prelude.{◌^◌, ◌-◌, slice_get}
-use Rattle.sp_ids.specs.declared.ids.BlockId.{BlockId}
-use Rattle.ir_ast.specs.declared.funcs.Arg.{Arg}
+use Rattle.std.proofs.Common.{◌≡◌, ℕ, true, false, List, [], ◌∷◌, Option, Some, None, codes, refl, ◌⊎◌, inl}
+use Rattle.std.specs.Prelude.{◌^◌, ◌-◌}
+use Rattle.list_laws.proofs.Contents.{all_one}
 use Rattle.ir_ast.specs.declared.ops.Callee.TheVariants as callees
 use Rattle.ir_ast.specs.declared.ops.Op.{Op}
 use Rattle.ir_ast.specs.declared.ops.Op.TheVariants as ops
-use Rattle.ir_ast.specs.declared.ops.Pred.TheVariants as preds
 use Rattle.ir_ast.specs.declared.ops.Operand.{Operand}
 use Rattle.ir_ast.specs.declared.ops.Operand.TheVariants.{Int as Literal, Null, Value}
 use Rattle.ir_ast.specs.declared.types.Ty.{Ty}
 use Rattle.ir_ast.specs.declared.types.Ty.TheVariants.{Void, Int, Ptr}
-use Rattle.ir_ast.specs.Blocks.{BasicBlock}
 use Rattle.ir_ast.specs.Funcs.{Function}
 use Rattle.ir_ast.specs.Insts.{Instruction}
 use Rattle.folded_forms.specs.Pure.{is_pure}
 use Rattle.folded_forms.specs.Foldable.{is_dead, is_foldable}
-use Rattle.folded_forms.specs.Folded.{Table, folded, stays}
+use Rattle.folded_forms.specs.Folded.{Table, folded, stands_for}
+use Rattle.folded_forms.specs.Foldings.{Folds, by_entries}
 
 abbrev value : ℕ → Operand
 value place = Value (record { 0 = place })
@@ -81,6 +79,10 @@ table = literal 5 ∷ literal 20 ∷ value 2 ∷ []
 
 folds : folded before table ≡ after
 folds = refl
+
+-- a phi over itself alone, as in a loop that isn't reached, gives the same as any operand: so a folding speaks of types
+unrooted : (to : Operand) → Folds (to ∷ []) 0 (gives ops.Phi (Int 64) (value 0 ∷ [])) to
+unrooted to = by_entries to refl (all_one (λ entry. (entry ≡ value 0) ⊎ (stands_for (to ∷ []) entry ≡ to)) (value 0) (inl refl))
 
 -- what is used is not dead, what may trap is not, and what nothing uses is
 dead : (is_dead before 0 (gives ops.Add (Int 64) (literal 2 ∷ literal 3 ∷ [])) ≡ false)

@@ -1,14 +1,10 @@
 -- Where the value that stands for others isn't defined, they aren't.
-use Rattle.std.proofs.Common.{◌≡◌, ℕ, zero, suc, ◌<◌, ◌≤◌, Bool, true, false, if◌then◌else◌, List, [], ◌∷◌, length, refl, sym, ap, subst, ◌∙◌, inl, inr, ◌⊎◌, arith}
+use Rattle.std.proofs.Common.{◌≡◌, ℕ, ◌≤◌, Bool, true, false, if◌then◌else◌, List, [], ◌∷◌, length, refl, sym, ap, subst, ◌∙◌, inl, inr, ◌⊎◌, arith}
 use Rattle.std.specs.Prelude.{Some, nat_lt, slice_get}
-use Rattle.std.specs.List.{All, Contains}
+use Rattle.std.specs.List.{All}
 use Rattle.std.proofs.lemmas.Bool.{cases_Bool}
 use Rattle.list_laws.proofs.Contents.{all_at}
-use Rattle.sp_ids.specs.declared.ids.BlockId.{BlockId}
-use Rattle.ir_ast.specs.declared.ops.Op.{Op}
-use Rattle.ir_ast.specs.declared.ops.Op.TheVariants as ops
 use Rattle.ir_ast.specs.declared.ops.Operand.{Operand}
-use Rattle.ir_ast.specs.declared.ops.Operand.TheVariants.{Int}
 use Rattle.ir_ast.specs.Blocks.{BasicBlock}
 use Rattle.ir_ast.specs.Funcs.{Function}
 use Rattle.ir_ast.specs.Insts.{Instruction}
@@ -21,7 +17,7 @@ use Rattle.base_definite.proofs.base_paths.UndefinedLaws.{Undefined, at_first, b
 use Rattle.known_values.specs.Texts.{UsesAreDefined}
 use Rattle.folded_forms.specs.Folded.{Table, stands_for, stays}
 use Rattle.folded_forms.specs.Foldings.{Folds, IsFolding, by_choice, by_entries, by_operator}
-use Rattle.folded_forms.specs.Known.{EntryFrom, PhisMeetEdges}
+use Rattle.folded_forms.specs.Known.{PhisMeetEdges}
 use Rattle.folded_forms.proofs.EntryLaws.{entry_stands}
 use Rattle.folded_forms.proofs.TableLaws.{gone_high, names_value, operand_used, same_number, stays_is}
 

@@ -1,8 +1,8 @@
 -- What stands for a value, and the meanings of a table.
-use Rattle.std.proofs.Common.{◌≡◌, ◌==◌, ℕ, zero, suc, ◌<◌, ◌≤◌, Bool, true, false, eqb, ◌&&◌, if◌then◌else◌, List, [], ◌∷◌, map, length, refl, sym, ap, subst, ◌∙◌, inl, inr, arith}
-use Rattle.std.specs.Prelude.{Option, Some, None, slice_get, slice_index_or}
+use Rattle.std.proofs.Common.{◌≡◌, ℕ, zero, suc, ◌≤◌, Bool, true, false, ◌&&◌, if◌then◌else◌, List, [], ◌∷◌, map, length, refl, sym, ap, ◌∙◌, inl, inr}
+use Rattle.std.specs.Prelude.{Some, None, slice_get}
 use Rattle.std.specs.List.{Contains, list_all}
-use Rattle.std.proofs.lemmas.Bool.{cases_lt, eq-eqb, eqb-true, false≢true}
+use Rattle.std.proofs.lemmas.Bool.{cases_lt, eq-eqb, false≢true}
 use Rattle.std.proofs.lemmas.List.{get_or-set_other}
 use Rattle.std.proofs.lemmas.Option.{none-some, same_Some}
 use Rattle.list_laws.proofs.Contents.{contains_get, contains_none, contains_one}
@@ -14,6 +14,7 @@ use Rattle.ir_ast.specs.Funcs.{Function}
 use Rattle.ir_ast.specs.Insts.{Instruction}
 use Rattle.ir_ast.specs.Objects.{Datum}
 use Rattle.ir_ast.specs.Operands.{is_literal, named, operands_of, same_operand, value_in, valued, values_used}
+use Rattle.ir_ast.proofs.OpLaws.{same_is}
 use Rattle.object_meaning.specs.Registers.{nothing, operand, put, value}
 use Rattle.known_values.specs.Meanings.{Meaning, register}
 use Rattle.folded_forms.specs.Folded.{Table, stands_for, stays}
@@ -25,13 +26,7 @@ use Rattle.folded_forms.specs.Known.{meaning_of, meanings_of}
 pub same_number : (one other : ℕ) → named one ≡ named other → one ≡ other
 same_number one other same = let ids : valued one ≡ valued other = cc in ap (λ (id : ValueId). id.0) ids
 
-same_is : (own : ℕ) (other : Operand) → same_operand (named own) other ≡ true → other ≡ named own
-same_is own (Value id) same = let is = eqb-true own id.0 same in ap (λ (n : ℕ). named n) (sym is)
-same_is own (Int literal) same = absurd cc
-same_is own Null same = absurd cc
-same_is own (Fun func) same = absurd cc
-
-is_same : (own : ℕ) (other : Operand) → other ≡ named own → same_operand (named own) other ≡ true
+pub is_same : (own : ℕ) (other : Operand) → other ≡ named own → same_operand (named own) other ≡ true
 is_same own other is = ap (λ (o : Operand). same_operand (named own) o) is ∙ eq-eqb own own refl
 
 -- what names no value stands for itself
@@ -56,7 +51,7 @@ operand_used inst place own at =
 -- ---- tables
 
 pub stays_is : (table : Table) (own : ℕ) → stays table own ≡ true → stands_for table (named own) ≡ named own
-stays_is table own stays_here = same_is own (stands_for table (named own)) stays_here
+stays_is table own stays_here = sym (same_is (named own) (stands_for table (named own)) stays_here)
 
 pub gone_apart : (table : Table) (own : ℕ) → stays table own ≡ false → stands_for table (named own) ≡ named own → ⊥
 gone_apart table own gone is = false≢true (sym gone ∙ is_same own (stands_for table (named own)) is)

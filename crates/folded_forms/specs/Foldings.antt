@@ -1,15 +1,18 @@
 -- Tables in which only what reads the same stands for a value, and tables of values that nothing needs. No order is asked for.
-use Rattle.std.specs.Prelude.{◌≡◌, ◌⊎◌, ℕ, ◌<◌, true, false, ◌&&◌, nat_lt, if◌then◌else◌, List, [], ◌∷◌, length, map, Some, is_some, slice_get, Ok}
+use Rattle.std.specs.Prelude.{◌≡◌, ◌⊎◌, ℕ, ◌<◌, true, false, nat_lt, if◌then◌else◌, [], ◌∷◌, length, map, Some, is_some, slice_get, Ok}
 use Rattle.std.specs.List.{All, Contains, list_all}
 use Rattle.ir_ast.specs.declared.ops.Operand.{Operand}
 use Rattle.ir_ast.specs.declared.ops.Operand.TheVariants.{Int}
 use Rattle.ir_ast.specs.declared.ops.Op.TheVariants.{Phi, Select}
+use Rattle.ir_ast.specs.declared.types.Ty.{Ty}
+use Rattle.ir_ast.specs.Derived.{Derived}
 use Rattle.ir_ast.specs.Funcs.{Function, instructions_of}
 use Rattle.ir_ast.specs.Insts.{Instruction}
 use Rattle.ir_ast.specs.Objects.{number}
 use Rattle.ir_ast.specs.Operands.{is_literal, named, values_used}
-use Rattle.ir_ast.specs.Values.{Gives, definitions_of}
+use Rattle.ir_ast.specs.Values.{Gives, definitions_of, value_types}
 use Rattle.ir_ast.specs.Faults.GroupShape.{number_at}
+use Rattle.ir_ast.specs.Faults.TypeClash.{Fits}
 use Rattle.object_meaning.specs.Computing.{value_of_line}
 use Rattle.known_values.specs.Onward.{computes}
 use Rattle.folded_forms.specs.Folded.{Table, stands_for, stays}
@@ -31,6 +34,10 @@ pub record IsFolding (func : Function) (table : Table) : Type 0 where
   pub arguments : (value : ℕ) → value < length func.args → stays table value ≡ true
   pub closed : (value : ℕ) → stands_for table (stands_for table (named value)) ≡ stands_for table (named value)
   pub each : (value : ℕ) (inst : Instruction) → Gives func value inst → stays table value ≡ false → Folds table value inst (stands_for table (named value))
+  -- what stands for a value has its type, and is derived only where the value is: phis of a loop that isn't reached may be over
+  -- each other alone, so their entries don't say it
+  pub typed : (value : ℕ) (ty : Ty) → slice_get (value_types func) value ≡ Some ty → Fits (value_types func) (stands_for table (named value)) ty
+  pub derived : (value to : ℕ) → stands_for table (named value) ≡ named to → Derived func to → Derived func value
 
 -- what the table drops is pure, and used by nothing that stays
 pub record IsThinning (func : Function) (table : Table) : Type 0 where

@@ -67,12 +67,12 @@ leading_gives_none line registers _ _ by_br giving = elim giving [ inl line ↦ 
 leading_gives_none line registers _ _ by_condition giving = elim giving [ inl line ↦ cc | inr phi ↦ cc ]
 leading_gives_none line registers _ _ by_switch giving = elim giving [ inl line ↦ cc | inr phi ↦ cc ]
 
-leading_ends : (line : Line) (registers : List Datum) (op : Op) (to : ℕ) → LeadsTo line registers op to → is_terminator op ≡ true
+pub leading_ends : (line : Line) (registers : List Datum) (op : Op) (to : ℕ) → LeadsTo line registers op to → is_terminator op ≡ true
 leading_ends line registers _ _ by_br = refl
 leading_ends line registers _ _ by_condition = refl
 leading_ends line registers _ _ by_switch = refl
 
-leads_over : (func : Function) (block : ℕ) (line : Line) (registers : List Datum) (op : Op) (to : ℕ) → LeadsTo line registers op to → LeadsAlong func block line.inst op
+pub leads_over : (func : Function) (block : ℕ) (line : Line) (registers : List Datum) (op : Op) (to : ℕ) → LeadsTo line registers op to → LeadsAlong func block line.inst op
     → Edge (graph_of func) block to
 leads_over func block line registers _ _ by_br along = along
 leads_over func block line registers _ _ by_condition along = along (operand registers line.inst.operands 0)

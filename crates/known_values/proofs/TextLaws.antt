@@ -1,20 +1,19 @@
 -- The two meanings run the texts of typed functions: the target meaning as they stand, the source meaning with their polls.
-use Rattle.std.proofs.Common.{◌≡◌, ℕ, zero, suc, ◌+◌, ◌-◌, ◌<◌, ◌≤◌, Bool, true, false, not, ◌&&◌, ltb, if◌then◌else◌, List, [], ◌∷◌, ◌++◌, length, drop, refl, sym, ap, subst, ◌∙◌, inl, inr, arith}
+use Rattle.std.proofs.Common.{◌≡◌, ℕ, zero, suc, ◌+◌, ◌-◌, ◌<◌, ◌≤◌, Bool, true, false, not, ltb, if◌then◌else◌, List, [], ◌∷◌, ◌++◌, length, drop, refl, sym, ap, subst, ◌∙◌, inl, inr, arith}
 use Rattle.std.specs.Prelude.{⊤, Option, Some, None, slice_get, slice_index}
-use Rattle.std.specs.List.{All, Contains, list_all, position, position_or_len}
+use Rattle.std.specs.List.{All, Contains, position, position_or_len}
 use Rattle.std.specs.Option.{option_map, option_map_or}
-use Rattle.std.proofs.lemmas.Bool.{cases_Bool, ltb-true}
-use Rattle.std.proofs.lemmas.List.{length-append, length-map}
+use Rattle.std.proofs.lemmas.Bool.{cases_Bool, false≢true, ltb-true}
+use Rattle.std.proofs.lemmas.List.{length-append, length-drop, length-map}
 use Rattle.std.proofs.lemmas.Option.{none-some, slice_get_within}
 use Rattle.list_laws.proofs.Contents.{all_at, all_from_at, contains_get, get_contained, joined_contains}
-use Rattle.list_laws.proofs.Places.{get_some}
+use Rattle.list_laws.proofs.Places.{get_some, pushed_cases}
 use Rattle.list_laws.proofs.Tests.{all_passes}
 use Rattle.sp_ids.specs.declared.ids.BlockId.{BlockId}
 use Rattle.ir_ast.specs.declared.modules.Form.{Form}
 use Rattle.ir_ast.specs.declared.modules.Form.TheVariants.{Rewritten, Source}
 use Rattle.ir_ast.specs.declared.ops.Op.{Op}
 use Rattle.ir_ast.specs.declared.ops.Op.TheVariants as ops
-use Rattle.ir_ast.specs.declared.ops.Operand.{Operand}
 use Rattle.ir_ast.specs.Blocks.{BasicBlock, EndsAtTerminator}
 use Rattle.ir_ast.specs.Edges.{targets}
 use Rattle.ir_ast.specs.Faultless.{FunctionHasNoFault}
@@ -68,10 +67,6 @@ labels_fit ops.CondBr inst line = line.label_count
 labels_fit ops.Switch inst line = (line.0.label_count, line.1)
 labels_fit op inst line = tt
 
-fewer_cases : (all : List Operand) → 0 < length all → suc (length (drop 1 all)) ≤ length all
-fewer_cases [] some = absurd (omega arith)
-fewer_cases (first ∷ all) some = omega arith
-
 position_within : {A : Type 0} (test : A → Bool) (xs : List A) → option_map_or (λ place. place + 1) (position test xs) 0 ≤ length xs
 position_within test xs = elim (cases_Bool (ltb (position_or_len test xs) (length xs))) [
   | inl within ↦ rw within (let below = ltb-true (position_or_len test xs) (length xs) within in omega arith)
@@ -81,22 +76,6 @@ position_within test xs = elim (cases_Bool (ltb (position_or_len test xs) (lengt
 branch_below : (t : Bool) → (if t then 0 else 1) < 2
 branch_below true = omega arith
 branch_below false = omega arith
-
--- only the last one of a list that ends so passes
-only_last : {A : Type 0} (test : A → Bool) (before : List A) (last : A) (place : ℕ) (x : A) → list_all (λ y. not (test y)) before ≡ true
-    → slice_get (before ++ last ∷ []) place ≡ Some x → test x ≡ true → place ≡ length before
-only_last test [] last zero x none at passes = refl
-only_last test [] last (suc place) x none at passes = absurd cc
-only_last test (first ∷ before) last zero x none at passes =
-    let same : first ≡ x = cc in
-    let here = all_passes (λ y. not (test y)) (first ∷ before) 0 first none refl in
-    let there : test first ≡ true = ap test same ∙ passes in
-    absurd cc
-only_last {A} test (first ∷ before) last (suc place) x none at passes = ap suc (only_last test before last place x (rest (not (test first)) none) at passes)
-  where
-    rest : (t : Bool) → t && list_all (λ (y : A). not (test y)) before ≡ true → list_all (λ (y : A). not (test y)) before ≡ true
-    rest true all = all
-    rest false all = absurd cc
 
 -- a function whose blocks end at their only terminator, which has as many labels as it takes
 record IsLaidOut (func : Function) : Type 0 where
@@ -112,7 +91,12 @@ module _ (func : Function) (out : IsLaidOut func) where
       let same : stands.block ≡ own = cc in
       let at : slice_get (ended.before ++ ended.last ∷ []) place ≡ Some inst =
       ap (λ (insts : List Instruction). slice_get insts place) (sym ended.whole) ∙ (ap (λ (b : BasicBlock). slice_get b.insts place) (sym same) ∙ stands.in_block) in
-      let here = only_last (λ (i : Instruction). is_terminator i.op) ended.before ended.last place inst ended.inside at ends in
+      let here : place ≡ length ended.before =
+      elim (pushed_cases ended.before ended.last place inst at) [
+        | inl early ↦
+            absurd (false≢true (sym (ap not ends) ∙ all_passes (λ (i : Instruction). not (is_terminator i.op)) ended.before place inst ended.inside early))
+        | inr last ↦ last.0
+      ] in
       let long = ap length ended.whole ∙ length-append ended.before (ended.last ∷ []) in
       omega arith
 
@@ -137,9 +121,10 @@ module _ (func : Function) (out : IsLaidOut func) where
       leads_along block place inst stands (ap is_terminator is) (branch_taken datum) (omega (arith, count, below))
   leads_by block place inst stands ops.Switch is count = λ datum.
       let many = count.0 in
-      let fewer = fewer_cases inst.operands count.1 in
+      let some = count.1 in
+      let fewer = length-drop 1 inst.operands in
       let below = position_within (is_case (number_in datum)) (drop 1 inst.operands) in
-      leads_along block place inst stands (ap is_terminator is) (case_taken datum (drop 1 inst.operands)) (omega (arith, many, fewer, below))
+      leads_along block place inst stands (ap is_terminator is) (case_taken datum (drop 1 inst.operands)) (omega (arith, many, some, fewer, below))
   leads_by block place inst stands op is count = tt
 
   leads_out : (block place : ℕ) (inst : Instruction) → Stands func block place inst → LeadsAlong func block inst inst.op

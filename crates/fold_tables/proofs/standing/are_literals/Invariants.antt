@@ -1,0 +1,9 @@
+use Rattle.std.proofs.Common.{◌≡◌, true, take}
+use Rattle.std.specs.Prelude.{map}
+use Rattle.std.specs.List.{list_all}
+use Rattle.ir_ast.specs.Operands.{is_literal}
+use Rattle.folded_forms.specs.Folded.{stands_for}
+use Rattle.fold_tables.proofs.standing.are_literals.Given as goal
+
+abbrev pub invariant-loop-operand : goal.invariant-loop-operand
+invariant-loop-operand l = list_all is_literal (map (stands_for l.table) (take l.operand-index l.operands)) ≡ true

@@ -1,0 +1,5 @@
+use Rattle.folded_source.proofs.StepLaws as laws
+use Rattle.folded_source.proofs.thinnings_begin.Goals as goal
+
+pub returns : goal.returns
+returns c = laws.thinnings_begin

@@ -1,0 +1,4 @@
+pub mod Trims
+pub mod Groups
+pub mod Trimmed
+pub mod Statements
