@@ -1,25 +1,24 @@
 -- The group of the event lays the objects side by side.
-use Rattle.std.proofs.Common.{◌≡◌, ◌≢◌, refl, ap, sym, ◌∙◌, ℕ, zero, suc, ◌+◌, ◌<◌, ◌≤◌, ◌%◌, ◌^◌, Bool, true, false, ◌&&◌, ◌||◌, List, [], ◌∷◌, ◌++◌, length, map, get_or, cond, eqb, leb, ltb, Option, Some, None, arith, inl, inr}
-use Rattle.std.specs.Prelude.{not, filter}
-use Rattle.std.specs.List.{All, cons_option, filter_map, list_all, sum_by}
+use Rattle.std.proofs.Common.{◌≡◌, refl, ap, sym, ◌∙◌, ℕ, zero, suc, ◌+◌, ◌<◌, ◌≤◌, ◌%◌, true, ◌&&◌, List, [], ◌∷◌, ◌++◌, length, map, get_or, cond, leb, ltb, Option, Some, None, arith}
+use Rattle.std.specs.Prelude.{not}
+use Rattle.std.specs.List.{All, filter_map, list_all, sum_by}
 use Rattle.std.specs.Option.{is_some}
-use Rattle.std.proofs.lemmas.Bool.{and_from, and_parts, eq-eqb, le-leb, le-ltb, lt-ltb, ne_eqb, or_left}
+use Rattle.std.proofs.lemmas.Bool.{and_parts, eq-eqb, le-leb, le-ltb, lt-ltb, ne_eqb}
 use Rattle.std.proofs.lemmas.List.Elements.{All-head, All-tail, filter_map-append}
 use Rattle.std.proofs.lemmas.List.Sums.{sum_by-cons}
 use Rattle.move_plan.specs.declared.plan_lines.Move.{Move}
 use Rattle.move_plan.specs.declared.plan_lines.PlanLine.{PlanLine}
-use Rattle.move_plan.specs.declared.plan_lines.PlanLine.TheVariants as lines
 use Rattle.move_plan.specs.Plans.{event_of, group, move_at}
 use Rattle.moving_heap.specs.declared.stands.Stand.{Stand}
 use Rattle.moving_heap.specs.declared.stands.Verdict.TheVariants.{Empty, Illegal, Legal}
-use Rattle.moving_heap.specs.Places.{all_fit, apart, carried, clear, differ, exist, fits, flipped, flipped_at, group_moves, group_targets, is_legal, line_target, line_targets, moved, moves_none, moves_of, no_lines, sent, unnamed, verdict, verdict_of, due_moves, flip_start}
+use Rattle.moving_heap.specs.Places.{all_fit, apart, carried, clear, differ, exist, flipped, flipped_at, group_moves, group_targets, is_legal, line_target, line_targets, moved, moves_of, unnamed, verdict, verdict_of, due_moves, flip_start}
 use Rattle.moving_heap.specs.Settled.{AreSettled}
 use Rattle.moving_heap.proofs.PlaceLemmas.{carried_all, different}
-use Rattle.compact_plan.specs.declared.made.Made.{Made}
-use Rattle.compact_plan.specs.Compacting.{compacted, front_lines, is_front, is_later, later_lines, packed, packing, stands_before}
+use Rattle.made_objects.specs.declared.makes.Made.{Made}
+use Rattle.compact_plan.specs.Compacting.{compacted, front_lines, is_front, is_later, later_lines, packed, packing}
 use Rattle.compact_plan.specs.Packed.{laid, packing_moves, packing_verdict}
-use Rattle.compact_plan.specs.Promises.{AreBefore, EventCompacts, LaysSideBySide}
-use Rattle.compact_plan.proofs.LineLaws.{front_within, kept_none, later_behind, move_elsewhere}
+use Rattle.compact_plan.specs.Promises.{AreBefore, EventCompacts}
+use Rattle.compact_plan.proofs.LineLaws.{kept_none, later_behind, move_elsewhere}
 
 -- ---- the moves that the plan has at the event
 

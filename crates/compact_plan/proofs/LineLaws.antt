@@ -1,18 +1,18 @@
 -- What the plan that compacts says of tasks, of flips and of other events.
-use Rattle.std.proofs.Common.{◌≡◌, ◌≢◌, refl, ap, sym, ◌∙◌, ℕ, suc, ◌<◌, ◌≤◌, ◌+◌, Bool, true, false, ◌||◌, ◌&&◌, List, [], ◌∷◌, ◌++◌, cond, eqb, leb, ltb, Option, Some, None, arith, inl, inr}
+use Rattle.std.proofs.Common.{◌≡◌, ◌≢◌, refl, ap, sym, ◌∙◌, ℕ, ◌<◌, ◌≤◌, ◌+◌, Bool, true, false, ◌||◌, List, [], ◌∷◌, ◌++◌, cond, leb, Option, None, arith, inl, inr}
 use Rattle.std.specs.Prelude.{◌⊎◌, not, filter, slice_get}
 use Rattle.std.specs.List.{cons_option, filter_map, list_any}
 use Rattle.std.specs.Option.{is_some}
-use Rattle.std.proofs.lemmas.Bool.{and_from, cases_eq, eq-eqb, le-leb, leb-false, lt-ltb, ltb-false, ltb-true, leb-true, ne_eqb, and_parts}
+use Rattle.std.proofs.lemmas.Bool.{cases_eq, le-leb, ltb-false, ltb-true, leb-true, ne_eqb, and_parts}
 use Rattle.std.proofs.lemmas.Bool.Decides.{leb_tells}
 use Rattle.std.proofs.lemmas.List.Elements.{filter_map-append}
 use Rattle.std.proofs.lemmas.List.Folds.{list_any-append}
 use Rattle.move_plan.specs.declared.plan_lines.PlanLine.{PlanLine}
 use Rattle.move_plan.specs.declared.plan_lines.PlanLine.TheVariants.{Every, Move, Flip, Go}
-use Rattle.move_plan.specs.Plans.{event_of, flips, flips_at, go, group, move_at, task_at}
-use Rattle.compact_plan.specs.declared.made.Made.{Made}
+use Rattle.move_plan.specs.Plans.{event_of, flips, flips_at, move_at, task_at}
+use Rattle.made_objects.specs.declared.makes.Made.{Made}
 use Rattle.compact_plan.specs.Compacting.{compacted, front_lines, is_front, is_later, later_lines, packed, packing, stands_before}
-use Rattle.compact_plan.specs.Promises.{OthersStay, SaysTheSame}
+use Rattle.compact_plan.specs.Promises.{OthersStay}
 use Rattle.list_laws.proofs.Booleans.{or_false}
 
 pub le_or_lt : (a b : ℕ) → (a ≤ b) ⊎ (b < a)

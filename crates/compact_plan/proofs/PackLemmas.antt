@@ -1,13 +1,13 @@
 -- How long the plan that compacts is, and what a filter keeps of the rest of a list.
-use Rattle.std.proofs.Common.{◌≡◌, refl, ap, sym, ◌∙◌, ℕ, suc, ◌+◌, Bool, true, false, List, [], ◌∷◌, ◌++◌, drop, length, cond, Some, arith, inl, inr, length-append}
-use Rattle.std.specs.Prelude.{slice_get, filter, nat_lt}
+use Rattle.std.proofs.Common.{◌≡◌, refl, ap, sym, ◌∙◌, ℕ, ◌+◌, Bool, true, false, List, [], ◌∷◌, ◌++◌, drop, length, cond, Some, arith, length-append}
+use Rattle.std.specs.Prelude.{slice_get, filter}
 use Rattle.std.specs.List.{count_by}
 use Rattle.std.proofs.lemmas.List.{append_assoc}
 use Rattle.std.proofs.lemmas.List.Sums.{sum_by-cons}
 use Rattle.list_laws.proofs.Places.{drop_at}
 use Rattle.move_plan.specs.declared.plan_lines.PlanLine.{PlanLine}
 use Rattle.move_plan.specs.declared.plan_lines.PlanLine.TheVariants.{Move}
-use Rattle.compact_plan.specs.declared.made.Made.{Made}
+use Rattle.made_objects.specs.declared.makes.Made.{Made}
 use Rattle.compact_plan.specs.Compacting.{compacted, front_lines, later_lines, move_count, packed, packing, stands_before}
 
 pub filter_next : {X : Type 0} (p : X → Bool) (xs : List X) (k : ℕ) (x : X) → slice_get xs k ≡ Some x

@@ -1,8 +1,7 @@
 -- The plan that compacts is a plan.
-use Rattle.std.proofs.Common.{◌≡◌, ◌≢◌, refl, ap, sym, subst, ◌∙◌, ℕ, zero, suc, ◌+◌, ◌*◌, ◌<◌, ◌≤◌, ◌^◌, Bool, true, false, List, [], ◌∷◌, ◌++◌, length, get_or, cond, Some, arith, inl, inr, filter}
+use Rattle.std.proofs.Common.{◌≡◌, refl, ap, sym, subst, ◌∙◌, ℕ, zero, suc, ◌+◌, ◌*◌, ◌<◌, ◌≤◌, ◌^◌, Bool, true, false, List, [], ◌∷◌, ◌++◌, length, get_or, cond, Some, arith, inl, inr}
 use Rattle.std.specs.Prelude.{◌⊎◌, slice_get}
 use Rattle.std.specs.List.{All, AllPairs, sum_by}
-use Rattle.std.specs.List.Sorted.{IsNonDecreasingBy}
 use Rattle.std.proofs.lemmas.List.Elements.{All-append, All-cons, All-filter, All-from_get_or, All-get_or, All-nil, All-tail, All-head, filter_passes}
 use Rattle.std.proofs.lemmas.List.Kept.{AllPairs-cons, AllPairs-filter}
 use Rattle.std.proofs.lemmas.List.Sums.{sum_by-cons}
@@ -11,9 +10,9 @@ use Rattle.move_plan.specs.declared.plan_lines.PlanLine.{PlanLine}
 use Rattle.move_plan.specs.declared.plan_lines.PlanLine.TheVariants.{Every, Move, Flip, Go}
 use Rattle.move_plan.specs.PlanLines.{IsInRange}
 use Rattle.move_plan.specs.Plans.{event_of, IsPlan}
-use Rattle.compact_plan.specs.declared.made.Made.{Made}
+use Rattle.made_objects.specs.declared.makes.Made.{Made}
 use Rattle.compact_plan.specs.Compacting.{compacted, front_lines, is_front, is_later, later_lines, packed, packing, stands_before}
-use Rattle.compact_plan.specs.Objects.{ArePacked, IsWhole}
+use Rattle.made_objects.specs.Packed.{IsWhole}
 use Rattle.compact_plan.specs.Promises.{CompactedIsPlan, IsEvent}
 use Rattle.compact_plan.proofs.LineLaws.{front_within, later_behind, le_or_lt}
 use Rattle.std.proofs.lemmas.Bool.{cases_order}

@@ -1,8 +1,7 @@
 -- A worked case: two nodes of 16 bytes, made at events 2 and 3, are moved at event 4 and laid side by side at event 5.
 use Rattle.std.proofs.Common.{◌≡◌, refl, List, [], ◌∷◌}
-use Rattle.move_plan.specs.declared.plan_lines.PlanLine.{PlanLine}
 use Rattle.move_plan.specs.declared.plan_lines.PlanLine.TheVariants.{Every, Flip, Go, Move}
-use Rattle.compact_plan.specs.declared.made.Made.{Made}
+use Rattle.made_objects.specs.declared.makes.Made.{Made}
 use Rattle.compact_plan.specs.Compacting.{compacted}
 
 abbrev nodes : List Made

@@ -5,7 +5,7 @@ use Rattle.std.specs.Option.{is_some}
 use Rattle.move_plan.specs.declared.plan_lines.PlanLine.{PlanLine}
 use Rattle.move_plan.specs.declared.plan_lines.PlanLine.TheVariants.{Move}
 use Rattle.move_plan.specs.Plans.{event_of, move_at}
-use Rattle.compact_plan.specs.declared.made.Made.{Made}
+use Rattle.made_objects.specs.declared.makes.Made.{Made}
 
 -- an object that stands already when the event comes
 abbrev pub stands_before : ℕ → Made → Bool

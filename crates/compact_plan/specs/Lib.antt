@@ -1,4 +1,3 @@
 pub mod Compacting
-pub mod Objects
 pub mod Packed
 pub mod Promises

@@ -1,10 +1,9 @@
 -- Objects that lie side by side.
-use Rattle.std.specs.Prelude.{◌≡◌, ℕ, ◌+◌, ◌^◌, List, [], ◌∷◌, map}
+use Rattle.std.specs.Prelude.{ℕ, ◌+◌, List, [], ◌∷◌}
 use Rattle.move_plan.specs.declared.plan_lines.Move.{Move}
 use Rattle.moving_heap.specs.declared.stands.Stand.{Stand}
 use Rattle.moving_heap.specs.declared.stands.Verdict.{Verdict}
 use Rattle.moving_heap.specs.declared.stands.Verdict.TheVariants.{Empty, Legal}
-use Rattle.compact_plan.specs.declared.made.Made.{Made}
 
 -- the objects by number, each behind the one before it
 abbrev pub laid : ℕ → List Stand → List Stand

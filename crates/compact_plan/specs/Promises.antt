@@ -1,14 +1,14 @@
 -- What is promised of the plan that compacts.
-use Rattle.std.specs.Prelude.{◌≡◌, ◌≢◌, ℕ, ◌<◌, ◌≤◌, ◌^◌, if◌then◌else◌, List, ◌++◌, length, map, Option, Some, None}
-use Rattle.std.specs.List.{All, list_all, filter}
+use Rattle.std.specs.Prelude.{◌≡◌, ◌≢◌, ℕ, ◌<◌, ◌≤◌, ◌^◌, List, ◌++◌, length, map, Option}
+use Rattle.std.specs.List.{All}
 use Rattle.move_plan.specs.declared.plan_lines.PlanLine.{PlanLine}
 use Rattle.move_plan.specs.Plans.{IsPlan, flips, go, group}
 use Rattle.moving_heap.specs.declared.stands.Stand.{Stand}
 use Rattle.moving_heap.specs.Places.{carried, group_moves, verdict}
 use Rattle.moving_heap.specs.Settled.{AreSettled}
-use Rattle.compact_plan.specs.declared.made.Made.{Made}
-use Rattle.compact_plan.specs.Compacting.{compacted, stands_before}
-use Rattle.compact_plan.specs.Objects.{ArePacked}
+use Rattle.made_objects.specs.declared.makes.Made.{Made}
+use Rattle.compact_plan.specs.Compacting.{compacted}
+use Rattle.made_objects.specs.Packed.{ArePacked}
 use Rattle.compact_plan.specs.Packed.{laid, packing_verdict}
 
 -- an event has a number from 1, of 64 bits

@@ -2,9 +2,7 @@
 #![tactic(auto)]
 
 mod laws;
-mod made;
 mod planner;
 
 pub use laws::{compacted_is_plan, event_compacts, others_stay};
-pub use made::Made;
 pub use planner::{CompactFault, compact};

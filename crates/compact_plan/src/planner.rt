@@ -4,10 +4,10 @@ ghost use Rattle.std.specs.Prelude.{◌≡◌, ◌+◌, ◌*◌, ◌<◌, ◌≤
 ghost use Rattle.std.specs.List.{All, sum_by};
 ghost use Rattle.compact_plan.specs.Compacting.{compacted, front_lines, is_front, is_later, later_lines, move_count, packing};
 ghost use Rattle.move_plan.specs.Plans.{event_of};
-ghost use Rattle.compact_plan.specs.Objects.{ArePacked};
+ghost use Rattle.made_objects.specs.Packed.{ArePacked};
 ghost use Rattle.compact_plan.specs.declared.planner.CompactFault.TheVariants.{TooLong};
 
-use crate::made::Made;
+use made_objects::Made;
 use move_plan::{Plan, PlanLine};
 use std::alloc::{AllocError, Global};
 

@@ -42,7 +42,7 @@ use Rattle.flat_code.specs.Spots.{insts_at, first_at}
 use Rattle.flat_code.proofs.PhiLemmas.{phi_rest}
 use Rattle.flat_code.proofs.StraightLemmas.{passes_here, passes_more, value_at}
 use Rattle.tool_io.specs.Counts.{raised}
-use Rattle.ir_meaning.specs.declared.machine.Did.TheVariants.{GoesOn, Prints, Ends}
+use Rattle.run_tasks.specs.declared.printing.Did.TheVariants.{GoesOn, Prints, Ends}
 use Rattle.waiting_frames.specs.Frames.{Seen, front_frame, exit_frame}
 use Rattle.ir_meaning.specs.Stacks.{Frames, word, passed_frame, entered_frames, move_of, moved, arrived_frames}
 use Rattle.ir_meaning.specs.Machines.{Rest, state_from, exit_from, state_with, task_frames, waiting_frames, today, StandsAt, LeadsAlong, SwitchesAt, Turned}
@@ -107,6 +107,7 @@ jump_lost code plan bound frames others edge leads left none =
     let over : middle.running.rest ≡ [] = ap (λ (insts : List Instruction). drop (phi_count (lines_from edge.block first insts)) (lines_from edge.block first insts)) none in
     record {
       middle = middle;
+      still = refl;
       passes = passes_more setting state middle middle (leads.step_is ∙ sym (step_left setting state (jumped setting edge.block) left)) (passes_here setting middle);
       last = middle;
       effect = sym (step_at_end setting middle over);

@@ -2,9 +2,11 @@ pub mod WordLemmas
 pub mod StraightLemmas
 pub mod MachineLemmas
 pub mod CallLemmas
+pub mod StillLemmas
 pub mod SegmentLemmas
 pub mod OpeningLemmas
 pub mod PrintLemmas
 pub mod RunLemmas
 pub mod ReadyLemmas
 pub mod ReferenceLaws
+pub mod TrackLemmas

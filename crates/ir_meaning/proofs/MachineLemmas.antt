@@ -11,6 +11,7 @@ use Rattle.ir_ast.specs.declared.ops.Op.{Op}
 use Rattle.ir_ast.specs.Funcs.{Function as IrFunction}
 use Rattle.ir_ast.specs.Objects.{Datum}
 use Rattle.move_plan.specs.declared.plan_lines.PlanLine.{PlanLine}
+use Rattle.made_objects.specs.Makings.{sizes_in}
 use Rattle.object_meaning.specs.Calls.{called}
 use Rattle.object_meaning.specs.Effects.{Effect, goes_on, prints, ends}
 use Rattle.object_meaning.specs.Frames.{passed, answered_by, answered_at, resumed}
@@ -30,8 +31,8 @@ use Rattle.flat_code.specs.Segments.{Calls, IsExit}
 use Rattle.flat_code.specs.Spots.{lines_at}
 use Rattle.flat_code.specs.Straight.{Passes, IsAlike}
 use Rattle.flat_code.proofs.StraightLemmas.{passes_here, reaches_by}
-use Rattle.ir_meaning.specs.declared.machine.Did.{Did}
-use Rattle.ir_meaning.specs.declared.machine.Did.TheVariants.{GoesOn, Prints, Ends}
+use Rattle.run_tasks.specs.declared.printing.Did.{Did}
+use Rattle.run_tasks.specs.declared.printing.Did.TheVariants.{GoesOn, Prints, Ends}
 use Rattle.waiting_frames.specs.Frames.{front_frame, exit_frame}
 use Rattle.ir_meaning.specs.Stacks.{Frames, passed_frame}
 use Rattle.ir_meaning.specs.Machines.{Rest, Whole, state_from, exit_from, state_with, waiting_frames, switched_so, gone_to, today, StandsAt, Turned, Does}
@@ -41,31 +42,31 @@ use Rattle.list_laws.proofs.Places.{set_none}
 -- ---- turns
 
 pub turned_goes : (setting : Setting) (middle state : State) → goes_on state ≡ step setting middle → Turned setting middle GoesOn state
-turned_goes setting middle state e = record { middle = middle; passes = passes_here setting middle; last = state; effect = e; after = refl }
+turned_goes setting middle state e = record { middle = middle; passes = passes_here setting middle; still = refl; last = state; effect = e; after = refl }
 
 pub turned_prints : (setting : Setting) (middle state : State) (number : ℕ) → prints number state ≡ step setting middle → Turned setting middle (Prints number) state
-turned_prints setting middle state number e = record { middle = middle; passes = passes_here setting middle; last = state; effect = e; after = refl }
+turned_prints setting middle state number e = record { middle = middle; passes = passes_here setting middle; still = refl; last = state; effect = e; after = refl }
 
 pub turned_ends : (setting : Setting) (middle last state : State) (end : End) → ends end last ≡ step setting middle → IsAlike last state → Turned setting middle (Ends end) state
-turned_ends setting middle last state end e alike = record { middle = middle; passes = passes_here setting middle; last = last; effect = e; after = alike }
+turned_ends setting middle last state end e alike = record { middle = middle; passes = passes_here setting middle; still = refl; last = last; effect = e; after = alike }
 
 pub turned_does : (setting : Setting) (middle state : State) (did : Did) (effect : Effect State) → effect ≡ step setting middle → Does did effect state → Turned setting middle did state
 turned_does setting middle state did effect e does =
-    record { middle = middle; passes = passes_here setting middle; last = does.last; effect = does.effect_is ∙ e; after = does.after }
+    record { middle = middle; passes = passes_here setting middle; still = refl; last = does.last; effect = does.effect_is ∙ e; after = does.after }
 
-pub turned_behind : (setting : Setting) (start middle state : State) (did : Did) → Passes setting start middle → Turned setting middle did state → Turned setting start did state
-turned_behind setting start middle state did passes turned = record {
+pub turned_behind : (setting : Setting) (start middle state : State) (did : Did) → Passes setting start middle
+    → sizes_in setting.layouts middle.objects ≡ sizes_in setting.layouts start.objects → Turned setting middle did state → Turned setting start did state
+turned_behind setting start middle state did passes still turned = record {
   middle = turned.middle;
   passes = record {
     by = λ lines. reaches_by _ (record { state = start; lines = lines }) (record { state = middle; lines = lines })
         (record { state = turned.middle; lines = lines }) (passes.by lines) (turned.passes.by lines);
   };
+  still = turned.still ∙ still;
   last = turned.last;
   effect = turned.effect;
   after = turned.after;
 }
-
--- ---- steps that count
 
 -- ---- the lines at an exit
 

@@ -11,14 +11,15 @@ use Rattle.tool_io.proofs.AppendLaws.{append_known-then, AppendsFront-second, Ap
 use Rattle.piece_writer.specs.LinePuts.{IsShort, PutsFirst, PutsLines, SinkTold}
 use Rattle.piece_writer.proofs.LineLaws.{puts_none, puts_one, puts_both, puts_same, first_none, first_all, first_failed, first_more, first_after, first_same, first_front}
 use Rattle.sp_ids.specs.declared.ends.End.{End}
-use Rattle.ir_meaning.specs.declared.machine.Did.{Did}
-use Rattle.ir_meaning.specs.declared.machine.Did.TheVariants.{GoesOn, Prints, Ends as Finishes}
+use Rattle.run_tasks.specs.declared.printing.Did.{Did}
+use Rattle.run_tasks.specs.declared.printing.Did.TheVariants.{GoesOn, Prints, Ends as Finishes}
 use Rattle.flat_code.specs.Straight.{Passes, IsAlike}
 use Rattle.flat_code.proofs.StraightLemmas.{reaches_by}
 use Rattle.sp_ids.specs.declared.ends.Trap.{Trap as Trapped}
 use Rattle.sp_ids.specs.declared.ends.End.TheVariants.{Trap}
 use Rattle.run_tasks.specs.declared.runs.Ran.{Ran}
-use Rattle.ir_meaning.specs.Machines.{effect_of, IsAfter, Turned}
+use Rattle.run_tasks.specs.Dids.{effect_of, ended_of}
+use Rattle.ir_meaning.specs.Machines.{IsAfter, Turned}
 use Rattle.object_meaning.specs.Texts.{bundle_lines, closing_lines}
 use Rattle.object_meaning.specs.Runs.{Ends, Reaches}
 use Rattle.object_meaning.proofs.RunLaws.{reaches_more, ends_more}
@@ -27,7 +28,7 @@ use Rattle.object_meaning.specs.States.{State, Setting}
 use Rattle.object_meaning.specs.Steps.{step}
 use Rattle.object_meaning.specs.Effects.{Effect, goes_on, prints, ends, Progress, after, line_count, printed_line}
 use Rattle.object_meaning.specs.Outcomes.{proceeds}
-use Rattle.ir_meaning.specs.References.{IsRunFrom, WritesFrontFrom, lines_from, unprinted, Follows, ended_of, Wrote, WroteFront}
+use Rattle.ir_meaning.specs.References.{IsRunFrom, WritesFrontFrom, lines_from, unprinted, Follows, Wrote, WroteFront}
 use Rattle.ir_meaning.proofs.PrintLemmas.{lines_first}
 
 pub follows_start : (setting : Setting) (state : State) (old : SinkTold) → Follows setting (unprinted state) state 0 old old
@@ -144,7 +145,7 @@ follows_passes setting start state middle count old now follows passes = record 
   puts = follows.puts;
 }
 
-after_effect : (did : Did) (last next : State) (effect : Effect State) → ended_of did ≡ None → IsAfter did last next → effect_of did last ≡ effect → effect_of did next ≡ effect
+pub after_effect : (did : Did) (last next : State) (effect : Effect State) → ended_of did ≡ None → IsAfter did last next → effect_of did last ≡ effect → effect_of did next ≡ effect
 after_effect GoesOn last next effect goes after e = subst (λ (s : State). goes_on s ≡ effect) after e
 after_effect (Prints word) last next effect goes after e = subst (λ (s : State). prints word s ≡ effect) after e
 after_effect (Finishes end) last next effect goes after e = cc

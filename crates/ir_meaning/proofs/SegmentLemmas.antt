@@ -1,5 +1,5 @@
 -- The lines of a segment, as a part of the run.
-use Rattle.std.proofs.Common.{◌≡◌, ℕ, List, [], map, Option, Some, None, Ok, Err, refl, sym, ap, subst, ◌∙◌}
+use Rattle.std.proofs.Common.{◌≡◌, ℕ, List, [], ◌∷◌, ◌++◌, map, Option, Some, None, Ok, Err, refl, sym, ap, subst, ◌∙◌, append_assoc}
 use Rattle.std.specs.Prelude.{MatchOption}
 use Rattle.std.specs.Option.{option_map_or}
 use Rattle.sp_ids.specs.declared.ends.End.TheVariants.{Trap as Trapped}
@@ -8,8 +8,10 @@ use Rattle.sp_ids.specs.declared.ends.Trap.TheVariants.{Unreachable}
 use Rattle.ir_ast.specs.Layouts.{ObjectLayout}
 use Rattle.ir_ast.specs.Objects.{Object}
 use Rattle.move_plan.specs.declared.plan_lines.PlanLine.{PlanLine}
+use Rattle.object_meaning.specs.Effects.{ends}
 use Rattle.object_meaning.specs.Frames.{resumed}
 use Rattle.object_meaning.specs.Lines.{Line}
+use Rattle.object_meaning.specs.Steps.{step}
 use Rattle.object_meaning.proofs.StepLaws.{step_at_end}
 use Rattle.object_store.specs.declared.words.Word.{Word}
 use Rattle.object_store.specs.Words.{datum}
@@ -18,13 +20,15 @@ use Rattle.flat_code.specs.declared.lines.Segment.{Segment}
 use Rattle.flat_code.specs.Codes.{FlatModule, defined_at, segment_at, front_lines, exit_lines, Fits, Leaves}
 use Rattle.flat_code.specs.Flats.{Held, flat_lines, lines_done}
 use Rattle.flat_code.specs.Spots.{lines_at}
-use Rattle.flat_code.specs.Straight.{Passes, stood}
-use Rattle.flat_code.proofs.StraightLemmas.{straight_passes, straight_traps}
-use Rattle.ir_meaning.specs.declared.machine.Did.TheVariants.{Ends}
+use Rattle.flat_code.specs.Straight.{Passes, held_effect, stood}
+use Rattle.flat_code.proofs.StraightLemmas.{step_straight, straight_passes}
+use Rattle.run_tasks.specs.declared.printing.Did.TheVariants.{Ends}
 use Rattle.waiting_frames.specs.Frames.{exit_frame}
 use Rattle.ir_meaning.specs.Stacks.{Frames, passed_frame}
 use Rattle.ir_meaning.specs.Machines.{Rest, state_from, exit_from, today, StandsAt, Turned}
 use Rattle.ir_meaning.proofs.MachineLemmas.{turned_ends, resumed_at}
+use Rattle.ir_meaning.proofs.StillLemmas.{lines_still, traps_in}
+use Rattle.made_objects.specs.Makings.{sizes_in}
 
 pub fits_stands : (code : FlatModule) (frames : Frames) (segment : Segment) (exit : Exit) → Fits code frames.running.spot.func frames.running.spot.segment segment
     → segment.exit ≡ Some exit → StandsAt code frames segment exit
@@ -87,6 +91,15 @@ segment_passes code plan bound frames next others segment layouts objects fits l
     ∙ ap (λ (fs : Frames). exit_from code fs (record others { objects = objects })) (sym is) in
     subst (Passes (today code plan bound) start) there passes
 
+-- they make no object
+pub segment_still : (code : FlatModule) (registers after : List Word) (before objects : List Object) (segment : Segment) (layouts : List ObjectLayout) → layouts ≡ code.content.layouts
+    → Ok (record { registers = map datum after; objects = objects }) ≡ lines_done layouts (record { registers = map datum registers; objects = before }) segment.lines.items
+    → sizes_in code.content.layouts objects ≡ sizes_in code.content.layouts before
+segment_still code registers after before objects segment layouts layouts_are done =
+    let held : Held = record { registers = map datum registers; objects = before } in
+    let last : Held = record { registers = map datum after; objects = objects } in
+    lines_still code.content.layouts held last segment.lines.items (ap (λ (ls : List ObjectLayout). lines_done ls held segment.lines.items) (sym layouts_are) ∙ sym done)
+
 pub segment_traps : (code : FlatModule) (plan : List PlanLine) (bound : ℕ) (frames next : Frames) (others : Rest) (segment : Segment) (layouts : List ObjectLayout) (objects : List Object) (trap : Trap)
     → Fits code frames.running.spot.func frames.running.spot.segment segment → layouts ≡ code.content.layouts
     → Err trap ≡ lines_done layouts (record { registers = map datum frames.running.registers; objects = others.objects }) segment.lines.items
@@ -98,16 +111,25 @@ segment_traps code plan bound frames next others segment layouts objects trap fi
     let held : Held = record { registers = map datum frames.running.registers; objects = others.objects } in
     let done_so : lines_done code.content.layouts held (flat_lines code.content.layouts lines.front) ≡ Err trap =
     ap (lines_done code.content.layouts held) (sym lines.are) ∙ ap (λ (ls : List ObjectLayout). lines_done ls held segment.lines.items) (sym layouts_are) ∙ sym done in
-    let traps = straight_traps (today code plan bound) lines.front (lines_at (defined_at code func) segment.end) start trap lines.inner (front_is_at code func place segment fits ∙ lines.splits) done_so in
+    let trapped = traps_in code.content.layouts held lines.front trap lines.inner done_so in
+    let rest = lines_at (defined_at code func) segment.end in
+    let behind = trapped.line ∷ (trapped.behind ++ rest) in
+    let last = stood start behind trapped.now in
+    let there : start.running.rest ≡ trapped.before ++ behind =
+    front_is_at code func place segment fits ∙ (lines.splits ∙ (ap (λ (front : List Line). front ++ rest) trapped.splits ∙ append_assoc trapped.before (trapped.line ∷ trapped.behind) rest)) in
+    let setting = today code plan bound in
+    let stepped : step setting last ≡ ends (Trapped trap) last =
+    step_straight setting last trapped.line (trapped.behind ++ rest) refl trapped.straight ∙ ap (held_effect last (trapped.behind ++ rest)) trapped.traps in
     record {
-      middle = traps.last;
-      passes = traps.passes;
-      last = traps.last;
-      effect = sym traps.ends_so;
+      middle = last;
+      passes = straight_passes setting trapped.before behind start trapped.now trapped.inner there trapped.done;
+      still = lines_still code.content.layouts held trapped.now (flat_lines code.content.layouts trapped.before) trapped.done;
+      last = last;
+      effect = sym stepped;
       after = record {
-        func = traps.alike.func ∙ sym (ap (λ (fs : Frames). fs.running.spot.func) is);
-        below = traps.alike.below ∙ sym (ap (λ (fs : Frames). map (exit_frame code) fs.below) is);
-        steps = traps.alike.steps;
-        events = traps.alike.events;
+        func = sym (ap (λ (fs : Frames). fs.running.spot.func) is);
+        below = sym (ap (λ (fs : Frames). map (exit_frame code) fs.below) is);
+        steps = refl;
+        events = refl;
       };
     }

@@ -13,14 +13,16 @@ use Rattle.flat_code.specs.Codes.{FlatModule, defined_at, segment_at, block_at, 
 use Rattle.flat_code.specs.Straight.{Passes, IsAlike}
 use Rattle.object_meaning.specs.Lines.{main_of, register_count}
 use Rattle.object_meaning.specs.States.{Frame, State, Setting}
-use Rattle.object_meaning.specs.Effects.{Effect, goes_on, prints, ends}
+use Rattle.object_meaning.specs.Effects.{Effect}
 use Rattle.object_meaning.specs.Calls.{stepped}
 use Rattle.object_meaning.specs.Jumps.{jumped}
 use Rattle.object_meaning.specs.SourceRuns.{source_setting}
 use Rattle.object_meaning.specs.Steps.{step}
 use Rattle.object_store.specs.Words.{number_word}
-use Rattle.ir_meaning.specs.declared.machine.Did.{Did}
-use Rattle.ir_meaning.specs.declared.machine.Did.TheVariants.{GoesOn, Prints, Ends}
+use Rattle.run_tasks.specs.declared.printing.Did.{Did}
+use Rattle.run_tasks.specs.declared.printing.Did.TheVariants.{Ends}
+use Rattle.run_tasks.specs.Dids.{effect_of}
+use Rattle.made_objects.specs.Makings.{sizes_in}
 use Rattle.ir_meaning.specs.declared.machine.Machine.{Machine}
 use Rattle.waiting_frames.specs.Frames.{front_frame, exit_frame}
 use Rattle.ir_meaning.specs.Stacks.{Frames}
@@ -106,20 +108,16 @@ pub record StandsAt (code : FlatModule) (frames : Frames) (segment : Segment) (e
   pub there : segment_at code frames.running.spot.func frames.running.spot.segment ≡ Some segment
   pub leaves : Leaves code frames.running.spot.func frames.running.spot.segment segment exit
 
-abbrev pub effect_of : Did → State → Effect State
-effect_of GoesOn state = goes_on state
-effect_of (Prints word) state = prints word state
-effect_of (Ends end) state = ends end state
-
 -- at an end what is left of the state is what is written of it
 abbrev pub IsAfter : Did → State → State → Type 0
 IsAfter (Ends end) last state = IsAlike last state
 IsAfter _ last state = last ≡ state
 
--- the run comes from a state to one whose step does this
+-- the run comes from a state to one whose step does this, and makes no object on the way
 pub record Turned (setting : Setting) (start : State) (did : Did) (state : State) : Type 0 where
   pub middle : State
   pub passes : Passes setting start middle
+  pub still : sizes_in setting.layouts middle.objects ≡ sizes_in setting.layouts start.objects
   pub last : State
   pub effect : effect_of did last ≡ step setting middle
   pub after : IsAfter did last state

@@ -1,5 +1,5 @@
 -- What the reference interpreter answers.
-use Rattle.std.specs.Prelude.{◌≡◌, ℕ, ◌+◌, ◌-◌, ◌^◌, min, ℤ, List, [], ◌++◌, reverse, Option, Some, None}
+use Rattle.std.specs.Prelude.{◌≡◌, ℕ, ◌+◌, ◌-◌, ◌^◌, min, ℤ, List, [], ◌++◌, reverse, Option}
 use Rattle.std.specs.List.{All, concat}
 use Rattle.tool_io.specs.Sink.{append_known, AppendsFront}
 use Rattle.tool_io.specs.Told.{add_told}
@@ -9,8 +9,8 @@ use Rattle.ir_ast.specs.Modules.{ModuleContent}
 use Rattle.flat_code.specs.Codes.{FlatModule}
 use Rattle.ir_meaning.specs.Machines.{state_of}
 use Rattle.ir_meaning.specs.declared.machine.Machine.{Machine}
-use Rattle.ir_meaning.specs.declared.machine.Did.{Did}
-use Rattle.ir_meaning.specs.declared.machine.Did.TheVariants.{Prints, Ends as Finishes}
+use Rattle.run_tasks.specs.declared.printing.Did.{Did}
+use Rattle.run_tasks.specs.declared.printing.Did.TheVariants.{Prints}
 use Rattle.run_tasks.specs.declared.runs.Ran.{Ran}
 use Rattle.run_tasks.specs.Runs.{ran_of}
 use Rattle.object_meaning.specs.Runs.{Ends, Reaches}
@@ -83,11 +83,6 @@ pub record Follows (setting : Setting) (start : Progress State) (state : State) 
   pub reached : Reaches {E = End} (proceeds setting) start (record { state = state; lines = lines })
   pub counted : count ≡ line_count lines
   pub puts : PutsLines old now (reverse lines)
-
--- the end of the run, where the step was its last
-abbrev pub ended_of : Did → Option End
-ended_of (Finishes end) = Some end
-ended_of _ = None
 
 -- what a step printed was put by one call, and counted
 abbrev pub Wrote : Did → ℕ → ℕ → SinkTold → SinkTold → Type 0

@@ -1,28 +1,23 @@
 //! The reference interpreter.
 
-ghost use Rattle.std.specs.Prelude.{◌≡◌, ◌≤◌, ◌<◌, length, codes, IfOk, IfSome, OnOk, OnErr, IsErrOf};
-ghost use Rattle.std.specs.List.{All, concat, position};
-ghost use Rattle.std.specs.Str.{bytes_eq};
+ghost use Rattle.std.specs.Prelude.{◌≡◌, ◌≤◌, IfOk, OnOk, OnErr, IsErrOf};
+ghost use Rattle.std.specs.List.{All, concat};
 ghost use Rattle.tool_io.specs.Counts.{Rose};
-ghost use Rattle.object_meaning.specs.Lines.{main_of};
 ghost use Rattle.ir_meaning.specs.Machines.{state_of, today, IsOpened};
 ghost use Rattle.move_plan.specs.Plans.{go};
 ghost use Rattle.flat_code.specs.Codes.{IsReadyModule};
-ghost use Rattle.object_meaning.specs.Effects.{printed_line};
 ghost use Rattle.tool_io.specs.Sink.{append_known, AppendsFront};
 ghost use Rattle.piece_writer.specs.LinePuts.{IsShort, PutsFirst, PutsLines, told_by};
-ghost use Rattle.ir_meaning.specs.References.{last_lines, IsRun, IsRunFrom, PutsFrontOfRun, PutsRun, WritesFrontFrom, WritesFrontOfRun, unprinted, ended_of, Wrote, WroteFront};
+ghost use Rattle.ir_meaning.specs.References.{last_lines, IsRun, IsRunFrom, PutsFrontOfRun, PutsRun, WritesFrontFrom, WritesFrontOfRun, unprinted, Wrote, WroteFront};
 
-use crate::machine::{Did, Machine};
+use crate::machine::Machine;
 use crate::stacks::Stack;
-use arrayvec::ArrayVec;
 use flat_code::Code;
-use ir_ast::{Func, Module};
-use itoa::Buffer;
+use ir_ast::Module;
 use move_plan::Plan;
 use object_store::Objects;
-use run_tasks::Ran;
-use sp_ids::{End, FuncId, Memory, sign};
+use run_tasks::{Did, Ran, ended, main_of, printed_line};
+use sp_ids::{End, FuncId, Memory};
 use std::alloc::Global;
 use tool_io::{Failed, Sink};
 use waiting_frames::Spot;
@@ -84,15 +79,15 @@ pub fn reference<O: Sink>(
     run(&code, &mut machine, plan, steps, out)
 }
 
-// Task 0 at the front of `@main`.
-fn opened<'c, 'i>(
+/// Task 0 at the front of `@main`.
+pub fn opened<'c, 'i>(
     alloc: Global,
     code: &'c Code,
     input: &'i [i64],
 ) -> Result<Machine<'c, 'i>, Memory>
     ensures { IfOk result (λ machine. IsOpened code.now input.now machine) }
 {
-    let main = main_of(code);
+    let main = main_of(code.module());
     let front = Spot {
         func: main,
         segment: 0,
@@ -110,29 +105,6 @@ fn opened<'c, 'i>(
         steps: 0,
         events: 0,
     })
-}
-
-// The number of `@main`.
-fn main_of(code: &Code) -> u32
-    ensures { result ≡ main_of code.now.content }
-{
-    match main_among(code.module().funcs()) {
-        None => 0,
-        Some(place) => place as u32,
-    }
-}
-
-fn main_among(funcs: &[Func]) -> Option<usize>
-    ensures value { result ≡ position (λ func. bytes_eq func.content.name (codes "main")) funcs.now }
-    ensures within { IfSome result (λ place. place < length funcs.now) }
-{
-    funcs.iter().position(|func| is_main(func))
-}
-
-fn is_main(func: &Func) -> bool
-    ensures { result ≡ bytes_eq func.now.content.name (codes "main") }
-{
-    func.name().bytes() == b"main".as_slice()
 }
 
 // Runs to the end.
@@ -160,16 +132,6 @@ fn run<O: Sink>(
         lines = more;
     }
     Err(RefFault::Memory)
-}
-
-// The end of the run, where the turn was its last.
-fn ended(did: Did) -> Option<End>
-    ensures { result ≡ ended_of did }
-{
-    match did {
-        Did::Ends(end) => Some(end),
-        _ => None,
-    }
 }
 
 // Writes what a turn printed, and counts the line.
@@ -203,7 +165,8 @@ fn show_end<O: Sink>(code: &Code, end: End, machine: &Machine, out: &mut O) -> R
     }
 }
 
-fn how_ran(end: End, machine: &Machine, lines: u64) -> Ran
+/// The answer of a run that has ended so.
+pub fn how_ran(end: End, machine: &Machine, lines: u64) -> Ran
     ensures { result ≡ record { end = end; func = record { 0 = machine.now.stack.running.spot.func }; steps = machine.now.steps; events = machine.now.events; lines = lines } }
 {
     Ran {
@@ -213,16 +176,4 @@ fn how_ran(end: End, machine: &Machine, lines: u64) -> Ran
         events: machine.events,
         lines,
     }
-}
-
-// The signed decimal of an `i64`, and a newline.
-#[tactic(auto, unfolding(object_meaning::specs::Effects::printed_line))]
-fn printed_line(word: u64) -> ArrayVec<u8, 64>
-    ensures { result.items ≡ printed_line word }
-{
-    let mut buffer = Buffer::new();
-    let mut line = ArrayVec::new();
-    let _ = line.try_extend_from_slice(buffer.format(sign(64, word)).as_bytes());
-    let _ = line.try_extend_from_slice(b"\n");
-    line
 }

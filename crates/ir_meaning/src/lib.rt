@@ -4,7 +4,9 @@
 mod computing;
 mod interpret;
 mod machine;
+mod making;
 mod stacks;
 mod straight;
 
 pub use interpret::{RefFault, reference};
+pub use making::made;

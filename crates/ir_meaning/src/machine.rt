@@ -3,7 +3,6 @@
 ghost use Rattle.std.specs.Prelude.{◌≡◌, ◌+◌, ◌-◌, ◌<◌, ◌≤◌, None, IfOk, IfSome, OnOk, length, drop, slice_get, slice_set, unwrap_or};
 ghost use Rattle.std.specs.List.{position};
 ghost use Rattle.std.specs.Option.{option_map_or};
-ghost use Rattle.object_meaning.specs.Calls.{function_in};
 ghost use Rattle.object_meaning.specs.Frames.{resumed};
 ghost use Rattle.object_meaning.specs.Jumps.{case_taken, is_case};
 ghost use Rattle.object_meaning.specs.Tasks.{task_ended, handed_over};
@@ -13,24 +12,16 @@ ghost use Rattle.ir_meaning.specs.Machines.{state_of, exit_of, seen_of, switched
 
 use crate::computing::is_set;
 use crate::stacks::{Move, Stack};
-use flat_code::{Code, Edge, Exit, Segment};
+use flat_code::{Code, Edge, Exit, Segment, cases_of};
 use ir_ast::Operand;
 use move_plan::Plan;
 use object_store::{Objects, Word};
+use run_tasks::{Did, first_of, function_in, rest_of};
 use sp_ids::limits::{FRAMES, TASKS};
 use sp_ids::{End, Memory, Trap, sign};
 use std::alloc::Global;
 use std::mem;
 use waiting_frames::Spot;
-
-/// What a turn did.
-#[derive(Clone, Copy, Debug, PartialEq, Eq)]
-pub enum Did {
-    GoesOn,
-    /// It printed this number.
-    Prints(u64),
-    Ends(End),
-}
 
 /// A run: the frames of its task, room for the moves of phis and for arguments, the number of the task and the frames of the
 /// others by number, the objects, what is left of the input, and the steps and events so far.
@@ -450,46 +441,12 @@ fn set_task(tasks: &mut Vec<Option<Stack>>, task: u64, frames: Option<Stack>)
     }
 }
 
-// The function that a `task_start` names.
-fn function_in(operands: &[Operand]) -> u32
-    ensures { result ≡ function_in (slice_get operands.now 0) }
-{
-    match operands.first() {
-        Some(Operand::Fun(func)) => func.0,
-        _ => 0,
-    }
-}
-
-fn first_of(input: &[i64]) -> Option<i64>
-    ensures { result ≡ slice_get input.now 0 }
-{
-    input.first().copied()
-}
-
-fn rest_of(input: &[i64]) -> &[i64]
-    ensures { result.now ≡ drop 1 input.now }
-{
-    match input {
-        [] => &[],
-        [_first, rest @ ..] => rest,
-    }
-}
-
 // Which edge of a `switch` is taken: the first equal case's, or the default's, which stands first.
 fn case_taken(word: Word, operands: &[Operand]) -> usize
     ensures value { result ≡ case_taken (datum word) (drop 1 operands.now) }
     ensures within { result ≤ length operands.now - 1 }
 {
     case_among(word.number(), cases_of(operands))
-}
-
-fn cases_of(operands: &[Operand]) -> &[Operand]
-    ensures { result.now ≡ drop 1 operands.now }
-{
-    match operands {
-        [] => &[],
-        [_value, cases @ ..] => cases,
-    }
 }
 
 fn case_among(number: u64, cases: &[Operand]) -> usize

@@ -6,7 +6,7 @@ ghost use Rattle.object_meaning.specs.Accesses.{loaded, stored};
 ghost use Rattle.object_meaning.specs.Registers.{nothing, pointer_in};
 ghost use Rattle.cell_rows.specs.declared.shapes.Shape.{Shape};
 ghost use Rattle.cell_rows.specs.Rows.{AreLaid, AreOrdered, bytes_of};
-ghost use Rattle.object_store.specs.Stored.{held, written, HasCells, objects_of, load_of, store_of, stored_result, blank_words, Makes};
+ghost use Rattle.object_store.specs.Stored.{bytes_taken, held, written, HasCells, objects_of, load_of, store_of, stored_result, blank_words, Makes};
 ghost use Rattle.object_store.specs.Words.{datum, datum_result};
 
 use crate::cells::{add_blanks, reach};
@@ -48,6 +48,13 @@ impl<'m> Objects<'m> {
             words: Vec::new(alloc),
             used: 0,
         }
+    }
+
+    /// How many bytes all objects take.
+    pub fn bytes(&self) -> u64
+        ensures { result ≡ bytes_taken self.now.layouts self.now.objects }
+    {
+        self.used
     }
 
     /// What the cell of this kind holds that a pointer names, or the trap (LLVM Language Reference, "'load' Instruction").

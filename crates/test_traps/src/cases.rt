@@ -12,7 +12,7 @@ use crate::modules::{func_of, module_of};
 use anyhow::{Result, bail};
 use case_files::{Part, case_lines, parts_in};
 use ir_ast::{Func, Module};
-use ir_meaning::reference;
+use ir_meaning::{made, reference};
 use move_plan::Plan;
 use sp_ids::limits::FILE_BYTES;
 use std::alloc::Global;
@@ -96,9 +96,14 @@ fn show_run(rt: &HostRuntime, whole: &Module, numbers: &str) -> Result<()>
     let Ok(plan) = Plan::read(alloc, b"") else {
         bail!("the plan has a fault");
     };
+    let steps = steps.parse()?;
     let mut out = MemSink::new(alloc, ROOM)?;
-    let ran = reference(alloc, whole, &input, &plan, steps.parse()?, &mut out);
+    let ran = reference(alloc, whole, &input, &plan, steps, &mut out);
     let written = String::from_utf8_lossy(alloc, out.bytes())?;
     println!(rt; "{ran:?}, written {written:?}")?;
+    let (_ran, objects) = made(alloc, whole, &input, &plan, steps)?;
+    for one in &objects {
+        println!(rt; "event {}: an object of {} bytes", one.event, one.footprint)?;
+    }
     Ok(())
 }

@@ -2,12 +2,11 @@
 
 ghost use Rattle.std.specs.Prelude.{◌≡◌, ◌↔◌, IsTrue};
 ghost use Rattle.std.specs.List.{All};
-ghost use Rattle.ir_ast.specs.Lines.{is_rewritten};
 ghost use Rattle.flat_code.specs.Codes.{IsReadyModule};
 ghost use Rattle.flat_code.specs.Spots.{AllReady};
 ghost use Rattle.test_traps.specs.Forms.{BlockIsReady, FunctionIsReady};
 
-use ir_ast::{Block, Callee, Func, Inst, Module, Op};
+use ir_ast::{Block, Func, Inst, Module};
 
 /// Whether each of its lines is of the source form.
 pub(crate) fn is_source_form(whole: &Module) -> bool
@@ -31,16 +30,5 @@ fn all_blocks(blocks: &[Block]) -> bool
 fn all_insts(insts: &[Inst]) -> bool
     ensures { IsTrue result ↔ AllReady insts.now }
 {
-    insts.iter().all(|inst| !is_rewritten(inst.op()))
-}
-
-// Whether the operator stands only in the rewritten form.
-fn is_rewritten(op: &Op) -> bool
-    ensures { result ≡ is_rewritten op.now }
-{
-    match op {
-        Op::Call { callee, .. } => matches!(callee, Callee::Poll | Callee::Check | Callee::Same),
-        Op::Statepoint { .. } | Op::GcResult | Op::GcRelocate => true,
-        _ => false,
-    }
+    insts.iter().all(|inst| !inst.op().is_rewritten())
 }

@@ -1,5 +1,5 @@
-//! Runs of modules whose calls have bundles, into traps and other ends: two lines a case, with what came and what was
-//! written.
+//! Runs of modules whose calls have bundles, into traps and other ends: for each case its remark, what came and what was
+//! written, and a line for each object that was made.
 #![tactic(auto)]
 
 mod cases;

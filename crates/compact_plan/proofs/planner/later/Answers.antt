@@ -1,4 +1,4 @@
-use Rattle.std.proofs.Common.{◌≡◌, ◌+◌, ap, ◌∙◌, drop}
+use Rattle.std.proofs.Common.{◌+◌, ap, ◌∙◌, drop}
 use Rattle.compact_plan.specs.Compacting.{later_lines, is_later}
 use Rattle.compact_plan.proofs.PackLemmas.{filter_next, kept_on, left_out}
 use Rattle.compact_plan.proofs.planner.later.Goals as goal

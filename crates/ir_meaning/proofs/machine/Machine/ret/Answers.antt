@@ -5,7 +5,7 @@ use Rattle.object_meaning.specs.Effects.{goes_on}
 use Rattle.object_meaning.specs.Registers.{operand}
 use Rattle.object_meaning.specs.Tasks.{task_ended}
 use Rattle.object_store.specs.Words.{datum}
-use Rattle.ir_meaning.specs.declared.machine.Did.{Did}
+use Rattle.run_tasks.specs.declared.printing.Did.{Did}
 use Rattle.ir_meaning.specs.Machines.{rest_of, exit_from, exit_of, state_of, today, Turned, Does}
 use Rattle.ir_meaning.proofs.WordLemmas.{operand_is}
 use Rattle.ir_meaning.proofs.MachineLemmas.{turned_does, turned_goes}

@@ -4,7 +4,7 @@ use Rattle.ir_ast.specs.declared.ops.Operand.{Operand}
 use Rattle.object_meaning.specs.Calls.{function_in}
 use Rattle.object_meaning.specs.Registers.{operand}
 use Rattle.object_store.specs.Words.{datum}
-use Rattle.ir_meaning.specs.declared.machine.Did.TheVariants.{GoesOn}
+use Rattle.run_tasks.specs.declared.printing.Did.TheVariants.{GoesOn}
 use Rattle.ir_meaning.specs.Stacks.{Frames}
 use Rattle.ir_meaning.specs.Machines.{rest_of, exit_of, state_from, today, Turned}
 use Rattle.ir_meaning.proofs.WordLemmas.{operand_is}

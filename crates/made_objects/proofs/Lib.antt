@@ -1,0 +1,4 @@
+pub mod StepLaws
+pub mod NewLaws
+pub mod MakingLaws
+mod Samples

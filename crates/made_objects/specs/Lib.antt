@@ -1,0 +1,4 @@
+pub mod Makings
+pub mod Packed
+pub mod Runs
+pub mod Statements
