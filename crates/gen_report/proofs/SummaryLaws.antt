@@ -1,19 +1,15 @@
 -- What the run of a generated module answers is what the source meaning says of it.
-use Rattle.std.proofs.Common.{◌≡◌, ℕ, List, [], ◌++◌, length, refl, sym, ap, subst, ◌∙◌}
+use Rattle.std.proofs.Common.{◌≡◌, ℕ, List, [], ◌++◌, length, ap, subst, ◌∙◌}
 use Rattle.sp_ids.specs.declared.ends.End.{End}
-use Rattle.std.specs.List.{All}
-use Rattle.ir_ast.specs.Bundles.{HasNoBundle}
 use Rattle.ir_ast.specs.Faults.GroupShape.{is_statepoint}
 use Rattle.ir_ast.specs.Modules.{ModuleContent}
 use Rattle.ir_cfg.specs.SourceModules.{IsSourceModule}
 use Rattle.ir_cfg.specs.TargetModules.{IsTargetModule}
 use Rattle.generated_forms.specs.Modules.{generated}
 use Rattle.run_tasks.specs.declared.runs.Ran.{Ran}
-use Rattle.machine_meaning.specs.MachineRuns.{MachineOutcome}
 use Rattle.map_bytes.specs.Maps.{map_bytes}
 use Rattle.move_plan.specs.Plans.{go}
 use Rattle.moves_unseen.specs.Waits.{IsSound}
-use Rattle.object_meaning.specs.Outcomes.{Outcome}
 use Rattle.object_meaning.specs.Texts.{function_name}
 use Rattle.runs_unseen.proofs.SeenRuns.{seen_here}
 use Rattle.rewritten_runs.proofs.NameLaws.{names_are_kept}
@@ -26,9 +22,9 @@ use Rattle.gen_report.specs.Summaries.{IsSummary, IsSummaryOf, count_lines, flip
 
 -- the counts of a summary are those of the modules, and its closing line is that of the run
 pub summarized : (seed size steps : ℕ) (content after : ModuleContent) (ran : Ran) (functions statepoints relocates bytes : ℕ) → content ≡ generated seed size → IsSourceModule content → IsRewritten content after
-    → IsTargetModule after → All HasNoBundle after.funcs → IsFlippingRun after steps ran → functions ≡ length content.funcs → statepoints ≡ instructions_with is_statepoint after
+    → IsTargetModule after → IsFlippingRun after steps ran → functions ≡ length content.funcs → statepoints ≡ instructions_with is_statepoint after
     → relocates ≡ instructions_with is_relocate after → bytes ≡ length (map_bytes (map_of after)) → IsSummary seed size steps (told_of functions statepoints relocates bytes after ran)
-summarized seed size steps content after ran functions statepoints relocates bytes made source is target bare run f s r b =
+summarized seed size steps content after ran functions statepoints relocates bytes made source is target run f s r b =
     let sound : IsSound after = record { target = target; verified = rewriting_is_verified content after source is } in
     let seen = seen_here after sound [] flipping steps run.machine run.gives in
     let meant = seen.outcome in

@@ -1,6 +1,5 @@
 -- The run of a rewritten module over its own stack map, over no input and while every event moves all objects.
-use Rattle.std.specs.Prelude.{◌≡◌, ℕ, List, [], ◌++◌, length}
-use Rattle.ir_ast.specs.Faults.GroupShape.{is_statepoint}
+use Rattle.std.specs.Prelude.{◌≡◌, ℕ, [], ◌++◌}
 use Rattle.ir_ast.specs.Modules.{ModuleContent}
 use Rattle.run_tasks.specs.declared.runs.Ran.{Ran}
 use Rattle.run_tasks.specs.Runs.{ran_of}
@@ -8,7 +7,7 @@ use Rattle.machine_meaning.specs.MachineRuns.{MachineOutcome, MachineGives}
 use Rattle.object_meaning.specs.Texts.{function_name}
 use Rattle.stackmap_write.specs.ModuleMaps.{map_of}
 use Rattle.tool_report.specs.Closings.{closing_line}
-use Rattle.gen_report.specs.Summaries.{Told, count_lines, flipping, instructions_with, is_relocate}
+use Rattle.gen_report.specs.Summaries.{Told, count_lines, flipping}
 
 -- a run of this module answers so
 pub record IsFlippingRun (after : ModuleContent) (steps : ℕ) (ran : Ran) : Type 0 where

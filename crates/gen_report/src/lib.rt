@@ -5,4 +5,5 @@ mod counts;
 mod runs;
 mod summary;
 
+pub use runs::map_of_module;
 pub use summary::{Summary, summarize};

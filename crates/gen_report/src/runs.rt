@@ -1,7 +1,5 @@
 //! The generated module rewritten, and the run of what came of it.
 ghost use Rattle.std.specs.Prelude.{◌≡◌, ◌≤◌, IfOk};
-ghost use Rattle.std.specs.List.{All};
-ghost use Rattle.ir_ast.specs.Bundles.{HasNoBundle};
 ghost use Rattle.ir_cfg.specs.SourceModules.{IsSourceModule};
 ghost use Rattle.ir_cfg.specs.TargetModules.{IsTargetModule};
 ghost use Rattle.map_bytes.specs.Maps.{map_bytes, IsMapOf};
@@ -27,11 +25,9 @@ use tool_io::SureSink;
 /// The rewritten module of a module that has few relocates.
 pub(crate) fn rewritten(alloc: Global, made: Module) -> Result<Verified, Memory>
     requires source { IsSourceModule made.content }
-    requires no_bundle { All HasNoBundle made.content.funcs }
     requires few { HasManyRelocates made.content → ⊥ }
     ensures is { IfOk result (λ after. IsRewritten made.content after.content) }
     ensures target { IfOk result (λ after. IsTargetModule after.content) }
-    ensures no_bundle { IfOk result (λ after. All HasNoBundle after.content.funcs) }
 {
     match sp_rewrite::rewrite(alloc, made) {
         Ok(after) => Ok(after),
@@ -41,9 +37,8 @@ pub(crate) fn rewritten(alloc: Global, made: Module) -> Result<Verified, Memory>
 }
 
 /// The bytes of the stack map of a rewritten module.
-pub(crate) fn map_of_module(alloc: Global, after: &Module) -> Result<Vec<u8>, Memory>
+pub fn map_of_module(alloc: Global, after: &Module) -> Result<Vec<u8>, Memory>
     requires target { IsTargetModule after.now.content }
-    requires no_bundle { All HasNoBundle after.now.content.funcs }
     ensures value { IfOk result (λ bytes. bytes.items ≡ map_bytes (map_of after.now.content)) }
     ensures is_map { IfOk result (λ bytes. IsMapOf bytes.items (map_of after.now.content)) }
 {

@@ -10,7 +10,9 @@ use Rattle.ir_ast.specs.Objects.{number}
 use Rattle.moving_heap.specs.declared.heap.AllocFault.TheVariants.{Count as Negative, Full as NoRoom}
 use Rattle.tool_io.specs.Counts.{raised}
 use Rattle.moving_heap.specs.declared.stands.Moved.{Moved}
-use Rattle.moving_heap.specs.Heaps.{HeapView, alloc_answer, with_object}
+use Rattle.moving_heap.specs.Heaps.{HeapView, alloc_answer, heap_of, with_object}
+use Rattle.moving_heap.specs.Settled.{Table}
+use Rattle.machine_lines.specs.Going.{still}
 use Rattle.object_meaning.specs.Effects.{Effect, goes_on, ends}
 use Rattle.machine_meaning.specs.Machines.{Machine, Machinery, gone_on}
 use Rattle.machine_meaning.specs.MachineTasks.{allocated_machine, allocating_machine}
@@ -22,8 +24,8 @@ use Rattle.moving_heap.specs.Places.{group_moves}
 use Rattle.move_plan.specs.declared.plan_lines.PlanLine.{PlanLine}
 use Rattle.move_plan.specs.Plans.{flips, go, group}
 use Rattle.ir_machine.specs.declared.executor.Program.{Program}
-use Rattle.ir_machine.specs.Events.{or_lost, IsLost}
-use Rattle.ir_machine.proofs.TaskLemmas.{hole_walks, hole_again, lost_here, lost_there}
+use Rattle.ir_machine.specs.Events.{or_lost, placed, IsLost}
+use Rattle.ir_machine.proofs.TaskLemmas.{hole_walks, hole_again, lost_here, lost_there, with_task}
 use Rattle.list_laws.proofs.Places.{set_twice}
 
 pub happen_is : (machinery : Machinery) (machine : Machine) (next : Machine → Effect Machine) (events : ℕ) (moves : List Moved) → events ≡ raised machine.state.events
@@ -107,3 +109,12 @@ make_none machine layout fields count answer = ap (allocated_machine machine lay
 pub make_full : (machine : Machine) (layout : ℕ) (fields : List Cell) (count : ℤ) → alloc_answer machine.heap fields count ≡ Err NoRoom
     → ends (Trap Full) machine ≡ allocating_machine machine layout fields count
 make_full machine layout fields count answer = ap (allocated_machine machine layout fields (unsigned_abs count)) (sym answer)
+
+-- the moves of an executor whose tasks and places are lent
+pub lent_moves : (machinery : Machinery) (event : ℕ) (machine : Machine) (run : Task) (tasks slice : List (Option Task)) (table : Table) (heap : HeapView) (next : Machine → Effect Machine)
+    → slice ≡ tasks → heap_of table ≡ heap
+    → told (moved_by machinery (moves_due machinery heap event) (record (with_task machine run machine.state.task tasks) { heap = still heap }) next)
+    ≡ told (moved_by machinery (moves_due machinery (heap_of table) event) (placed machine run slice table) next)
+lent_moves machinery event machine run tasks slice table heap next slice_is heap_is =
+    ap (λ (ts : List (Option Task)). told (moved_by machinery (moves_due machinery heap event) (record (with_task machine run machine.state.task ts) { heap = still heap }) next)) (sym slice_is)
+    ∙ ap (λ (h : HeapView). told (moved_by machinery (moves_due machinery h event) (record (with_task machine run machine.state.task slice) { heap = still h }) next)) (sym heap_is)

@@ -3,7 +3,6 @@ pub mod AccessLemmas
 pub mod TaskLemmas
 pub mod CallLemmas
 pub mod EventLemmas
-pub mod QuietLemmas
 pub mod TraceLemmas
 pub mod WriteLemmas
 pub mod RunLemmas

@@ -11,7 +11,6 @@ use Rattle.piece_writer.specs.LinePuts.{IsShort, PutsFirst, PutsLines, SinkTold}
 use Rattle.piece_writer.proofs.LineLaws.{first_after, first_all, first_front, first_more, first_none, first_same, puts_both, puts_none, puts_same}
 use Rattle.sp_ids.specs.declared.ends.End.{End}
 use Rattle.sp_ids.specs.declared.ends.End.TheVariants as stops
-use Rattle.ir_ast.specs.Bundles.{HasNoBundle}
 use Rattle.ir_ast.specs.Modules.{ModuleContent}
 use Rattle.map_bytes.specs.Maps.{StackMap}
 use Rattle.move_plan.specs.declared.plan_lines.PlanLine.{PlanLine}
@@ -32,10 +31,9 @@ use Rattle.machine_meaning.proofs.SettledLaws.{IsSoundAfter, step_sound}
 use Rattle.runs_unseen.proofs.machine_ends.EndLaws.{each_run_ends}
 use Rattle.stackmap_write.specs.ModuleMaps.{map_of}
 use Rattle.moves_unseen.specs.Waits.{IsSound}
-use Rattle.runs_unseen.proofs.MapLaws.{closing_nothing, names_nothing}
 use Rattle.runs_unseen.proofs.SeenRuns.{seen_here}
 use Rattle.tool_report.specs.Closings.{closing_line}
-use Rattle.run_texts.specs.RunTexts.{RunWrites, RunWritesQuiet, end_lines, lines_from, no_frames, printed_by, run_lines, step_lines}
+use Rattle.run_texts.specs.RunTexts.{RunWrites, end_lines, last_lines, lines_from, printed_by, run_lines, step_lines}
 use Rattle.run_texts.proofs.TextLaws.{bare_texts, traced_front, traced_last, written_first}
 use Rattle.run_tasks.specs.declared.runs.Ran.{Ran}
 use Rattle.run_tasks.proofs.RunLemmas.{ran_is}
@@ -43,10 +41,9 @@ use Rattle.run_traces.specs.declared.happenings.Happening.{Happening}
 use Rattle.ir_machine.specs.declared.executor.Did.{Did}
 use Rattle.ir_machine.specs.declared.executor.Did.TheVariants.{GoesOn, Prints, Ends as Finishes}
 use Rattle.ir_machine.specs.declared.run.Shows.{Shows}
-use Rattle.ir_machine.specs.Executors.{effect_of, told, without_words}
+use Rattle.ir_machine.specs.Executors.{effect_of, told, told_of, without_words}
 use Rattle.ir_machine.specs.Traces.{StepForeseen, did_lose, is_lost, shown_lines}
-use Rattle.ir_machine.specs.Answers.{BeginsText, Follows, IsRunFrom, IsRunOver, IsRunUnseen, PutsFrontOver, PutsRunOver, WritesFrontFrom, WritesFrontOver, counted_by, ended_of, lines_of_step, lines_over, printed_of, quiet_lines, unprinted}
-use Rattle.ir_machine.proofs.QuietLemmas.{closing_untrapped}
+use Rattle.ir_machine.specs.Answers.{BeginsText, Follows, IsRunFrom, IsRunOver, IsRunUnseen, PutsFrontOver, PutsRunOver, WritesFrontFrom, WritesFrontOver, counted_by, ended_of, lines_of_step, lines_over, lines_of_run, printed_of, unprinted}
 
 pub follows_start : (machinery : Machinery) (trace : Bool) (machine : Machine) (old : SinkTold) → AreSettled machine.heap.stands → Follows machinery trace (unprinted machine) machine 0 old old
 follows_start machinery trace machine old settled = record {
@@ -74,18 +71,35 @@ told_prints next word (ends end other) e = cc
 
 pub record LikeEnd (end : End) (now last : Machine) (effect : Effect Machine) : Type 0 where
   pub is : ends end last ≡ effect
-  pub same : without_words now ≡ without_words last
+  pub same : told_of end now ≡ told_of end last
 
 pub record EndsLike (end : End) (now : Machine) (effect : Effect Machine) : Type 0 where
   pub last : Machine
   pub like : LikeEnd end now last effect
 
-told_end : (end : End) (now : Machine) (effect : Effect Machine) → ends end (without_words now) ≡ told effect → EndsLike end now effect
+told_end : (end : End) (now : Machine) (effect : Effect Machine) → ends end (told_of end now) ≡ told effect → EndsLike end now effect
 told_end end now (goes_on other) e = cc
 told_end end now (prints word other) e = cc
 told_end end now (ends over other) e =
     let same : end ≡ over = cc in
-    record { last = other; like = record { is = ap (λ (one : End). ends one other) same; same = cc } }
+    let kept : told_of end now ≡ told_of over other = cc in
+    record { last = other; like = record { is = ap (λ (one : End). ends one other) same; same = kept ∙ ap (λ (one : End). told_of one other) (sym same) } }
+
+-- all but the stacks is the same
+bare_same : (end : End) (now last : Machine) → told_of end now ≡ told_of end last → without_words now ≡ without_words last
+bare_same (stops.Return number) now last e = ap without_words e
+bare_same (stops.Trap trap) now last e = ap without_words e
+bare_same stops.OutOfSteps now last e = ap without_words e
+bare_same stops.Poison now last e = ap without_words e
+bare_same stops.LostFrame now last e = e
+
+-- and what waiting frames show
+closing_same : (machinery : Machinery) (end : End) (now last : Machine) → told_of end now ≡ told_of end last → closing_of machinery end now ≡ closing_of machinery end last
+closing_same machinery (stops.Return number) now last e = refl
+closing_same machinery (stops.Trap trap) now last e = ap (closing_of machinery (stops.Trap trap)) e
+closing_same machinery stops.OutOfSteps now last e = refl
+closing_same machinery stops.Poison now last e = refl
+closing_same machinery stops.LostFrame now last e = refl
 
 lost_end : (end : End) (machine : Machine) → is_lost (ends end machine) ≡ did_lose (Finishes end)
 lost_end (stops.Return number) machine = refl
@@ -117,7 +131,7 @@ settled_end next (Prints word) end machinery machine settled e is = cc
 settled_end next (Finishes over) end machinery machine settled e is =
     let like = told_end over next (machine_step machinery machine) e in
     let sound : AreSettled like.last.heap.stands = subst IsSoundAfter (sym like.like.is) (step_sound machinery machine settled) in
-    subst (λ (m : Machine). AreSettled m.heap.stands) (sym like.like.same) sound
+    subst (λ (m : Machine). AreSettled m.heap.stands) (sym (bare_same over next like.last like.like.same)) sound
 
 -- ---- a step further
 
@@ -210,19 +224,25 @@ module _ (content : ModuleContent) (machinery : Machinery) (shows : Shows) (star
     before_end = lines_from machinery shows.trace (suc follows.reached.after) (Go start)
 
     abbrev at_end : List (List ℕ)
-    at_end = end_lines content shows.places end next
+    at_end = last_lines content machinery shows.places end next
 
-    abbrev quiet : List (List ℕ)
-    quiet = quiet_lines content machinery shows (suc follows.reached.after) start end like.last
+    abbrev all_lines : List (List ℕ)
+    all_lines = lines_of_run content machinery shows (suc follows.reached.after) start end like.last
 
-    quiet_is : before_end ++ at_end ≡ quiet
-    quiet_is = ap (λ (m : Machine). before_end ++ end_lines content shows.places end m) like.like.same
+    bare : without_words next ≡ without_words like.last
+    bare = bare_same over next like.last like.like.same
+
+    all_are : before_end ++ at_end ≡ all_lines
+    all_are =
+        ap (λ (shown : List (List ℕ)). before_end ++ (shown ++ end_lines content shows.places end next))
+        (subst (λ (how : End). closing_of machinery how next ≡ closing_of machinery how like.last) is (closing_same machinery over next like.last like.like.same))
+        ∙ ap (λ (m : Machine). before_end ++ (closing_of machinery end like.last ++ end_lines content shows.places end m)) bare
 
     before : PutsLines old mid before_end
     before = puts_next event one (Finishes over) foreseen same does mid added
 
-    short_end : All IsShort quiet → All IsShort at_end
-    short_end short = all_back IsShort before_end at_end (All-same IsShort (before_end ++ at_end) quiet quiet_is short)
+    short_end : All IsShort all_lines → All IsShort at_end
+    short_end short = all_back IsShort before_end at_end (All-same IsShort (before_end ++ at_end) all_lines all_are short)
 
     ended : new.written ≡ append_known mid.written (concat at_end) → (All IsShort at_end → PutsLines mid new at_end) → (ran : Ran)
         → ran ≡ record { end = end; func = record { 0 = next.state.running.func }; steps = next.state.steps; events = next.state.events; lines = count }
@@ -230,13 +250,13 @@ module _ (content : ModuleContent) (machinery : Machinery) (shows : Shows) (star
     ended closed put ran ran_is = rw ran_is (record {
       last = record { state = like.last; lines = follows.lines };
       run = ends_so;
-      func = ap (λ (m : Machine). m.state.running.func) like.like.same;
-      steps = ap (λ (m : Machine). m.state.steps) like.like.same;
-      events = ap (λ (m : Machine). m.state.events) like.like.same;
+      func = ap (λ (m : Machine). m.state.running.func) bare;
+      steps = ap (λ (m : Machine). m.state.steps) bare;
+      events = ap (λ (m : Machine). m.state.events) bare;
       lines = follows.counted;
       written = append_known-then old.written mid.written new.written (concat before_end) (concat at_end) before.written closed
-          ∙ ap (append_known old.written) (sym (concat-append before_end at_end) ∙ ap concat quiet_is);
-      puts = λ short. puts_same old new (before_end ++ at_end) quiet quiet_is (puts_both old mid new before_end at_end before (put (short_end short)));
+          ∙ ap (append_known old.written) (sym (concat-append before_end at_end) ∙ ap concat all_are);
+      puts = λ short. puts_same old new (before_end ++ at_end) all_lines all_are (puts_both old mid new before_end at_end before (put (short_end short)));
     })
 
     closing_front : AppendsFront mid.written new.written (concat at_end) → (All IsShort at_end → PutsFirst mid new at_end) → WritesFrontFrom content machinery shows start old new
@@ -244,8 +264,8 @@ module _ (content : ModuleContent) (machinery : Machinery) (shows : Shows) (star
       end = end;
       last = record { state = like.last; lines = follows.lines };
       run = ends_so;
-      front = AppendsFront-same (AppendsFront-second old.written (concat before_end) before.written front) (concat quiet) (ap concat (sym quiet_is) ∙ concat-append before_end at_end);
-      puts = λ short. first_same old new (before_end ++ at_end) quiet quiet_is (first_after old mid new before_end at_end before (put (short_end short)));
+      front = AppendsFront-same (AppendsFront-second old.written (concat before_end) before.written front) (concat all_lines) (ap concat (sym all_are) ∙ concat-append before_end at_end);
+      puts = λ short. first_same old new (before_end ++ at_end) all_lines all_are (first_after old mid new before_end at_end before (put (short_end short)));
     })
 
   module _ (event : Bool) (one : Happening) (end : End) where
@@ -256,7 +276,7 @@ module _ (content : ModuleContent) (machinery : Machinery) (shows : Shows) (star
 
     pub end_more : (did : Did) → StepForeseen machinery shows.trace machine event one → machine_step machinery later ≡ machine_step machinery machine
         → told (effect_of did next) ≡ told (machine_step machinery later) → ended_of did ≡ Some end → (mid new : SinkTold) → PutsLines now mid (lines_of_step event one did)
-        → new.written ≡ append_known mid.written (concat (end_lines content shows.places end next)) → (All IsShort (end_lines content shows.places end next) → PutsLines mid new (end_lines content shows.places end next)) → (ran : Ran)
+        → new.written ≡ append_known mid.written (concat (last_lines content machinery shows.places end next)) → (All IsShort (last_lines content machinery shows.places end next) → PutsLines mid new (last_lines content machinery shows.places end next)) → (ran : Ran)
         → ran ≡ record { end = end; func = record { 0 = next.state.running.func }; steps = next.state.steps; events = next.state.events; lines = count }
         → IsRunFrom content machinery shows start ran old new
     end_more did foreseen same does is mid new added closed put ran ran_is =
@@ -265,7 +285,7 @@ module _ (content : ModuleContent) (machinery : Machinery) (shows : Shows) (star
 
     pub end_front : (did : Did) → StepForeseen machinery shows.trace machine event one → machine_step machinery later ≡ machine_step machinery machine
         → told (effect_of did next) ≡ told (machine_step machinery later) → ended_of did ≡ Some end → (mid new : SinkTold) → PutsLines now mid (lines_of_step event one did)
-        → AppendsFront mid.written new.written (concat (end_lines content shows.places end next)) → (All IsShort (end_lines content shows.places end next) → PutsFirst mid new (end_lines content shows.places end next)) → WritesFrontFrom content machinery shows start old new
+        → AppendsFront mid.written new.written (concat (last_lines content machinery shows.places end next)) → (All IsShort (last_lines content machinery shows.places end next) → PutsFirst mid new (last_lines content machinery shows.places end next)) → WritesFrontFrom content machinery shows start old new
     end_front did foreseen same does is mid new added front put =
         finishing did is (λ d. told (effect_of d next) ≡ told (machine_step machinery later) → PutsLines now mid (lines_of_step event one d) → WritesFrontFrom content machinery shows start old new)
         (λ over over_is does added. closing_front event one over end foreseen same does over_is mid new added front put) does added
@@ -290,17 +310,11 @@ module _ (content : ModuleContent) (map : StackMap) (input : List ℤ) (plan : L
   machinery = machinery_of content map plan bound
 
   module _ (outcome : MachineOutcome) (gives : MachineGives content map input plan bound outcome) where
-    abbrev quiet_text : List ℕ
-    quiet_text = concat (run_lines content machinery shows.places shows.trace input gives.run.within [] outcome.end gives.last.state)
+    abbrev given_text : List ℕ
+    given_text = concat (run_lines content machinery shows.places shows.trace input gives.run.within outcome.end gives.last.state)
 
-    writes_quiet : RunWritesQuiet content map input plan bound shows.places shows.trace outcome quiet_text
-    writes_quiet = record { gives = gives; is = refl }
-
-    writes_whole : closing_of machinery outcome.end gives.last.state ≡ [] → RunWrites content map input plan bound shows.places shows.trace outcome quiet_text
-    writes_whole none = record {
-      gives = gives;
-      is = ap (λ (shown : List (List ℕ)). concat (run_lines content machinery shows.places shows.trace input gives.run.within shown outcome.end gives.last.state)) (sym none);
-    }
+    writes_given : RunWrites content map input plan bound shows.places shows.trace outcome given_text
+    writes_given = record { gives = gives; is = refl }
 
   abbrev outcome_ended : (end : End) (last : Progress Machine) → Ends (machine_proceeds machinery) (machine_opening machinery input) end last → MachineOutcome
   outcome_ended end last run = machine_outcome machinery input run.within end last
@@ -316,26 +330,22 @@ module _ (content : ModuleContent) (map : StackMap) (input : List ℤ) (plan : L
         let gives = gives_ended ran.end run.last run.run in
         record {
           outcome = outcome;
-          text = quiet_text outcome gives;
-          writes = writes_quiet outcome gives;
+          text = given_text outcome gives;
+          writes = writes_given outcome gives;
           answer = ran_is ran run.last.state.state.running.func run.last.state.state.steps run.last.state.state.events (line_count run.last.lines) run.func run.steps run.events run.lines;
           written = run.written;
-          untrapped = λ end. writes_whole outcome gives (closing_untrapped machinery ran.end run.last.state end);
-          unnamed = λ bare. writes_whole outcome gives (closing_nothing machinery ran.end run.last.state bare);
         }
 
     pub puts_are : (ran : Ran) → IsRunFrom content machinery shows (machine_opening machinery input) ran old new → PutsRunOver content map input plan bound shows old new
     puts_are ran run = record { outcome = outcome_ended ran.end run.last run.run; gives = gives_ended ran.end run.last run.run; puts = run.puts }
 
-    front_of : (outcome : MachineOutcome) (gives : MachineGives content map input plan bound outcome) → AppendsFront old.written new.written (quiet_text outcome gives)
+    front_of : (outcome : MachineOutcome) (gives : MachineGives content map input plan bound outcome) → AppendsFront old.written new.written (given_text outcome gives)
         → WritesFrontOver content map input plan bound shows old.written new.written
     front_of outcome gives front = record {
       outcome = outcome;
-      text = quiet_text outcome gives;
-      writes = writes_quiet outcome gives;
+      text = given_text outcome gives;
+      writes = writes_given outcome gives;
       front = front;
-      untrapped = λ end. writes_whole outcome gives (closing_untrapped machinery outcome.end gives.last.state end);
-      unnamed = λ bare. writes_whole outcome gives (closing_nothing machinery outcome.end gives.last.state bare);
     }
 
     -- the lines of the first steps stand first among all
@@ -345,7 +355,7 @@ module _ (content : ModuleContent) (map : StackMap) (input : List ℤ) (plan : L
         let start = Go (machine_opening machinery input) in
         let did : Progress Machine → List (List ℕ) = λ progress. step_lines machinery shows.trace progress.state in
         let front = traced_front did (machine_proceeds machinery) begun.steps given.gives.run.within start given.outcome.end given.gives.last given.gives.run.by in
-        let behind = end_lines content shows.places given.outcome.end given.gives.last.state in
+        let behind = last_lines content machinery shows.places given.outcome.end given.gives.last.state in
         let first = lines_from machinery shows.trace begun.steps start in
         record {
           outcome = given.outcome;
@@ -359,9 +369,9 @@ module _ (content : ModuleContent) (map : StackMap) (input : List ℤ) (plan : L
     begun_front : BeginsText machinery shows.trace (machine_opening machinery input) old new → WritesFrontOver content map input plan bound shows old.written new.written
     begun_front begun =
         let given = each_run_ends machinery input in
-        let first = written_first no_frames content map input plan bound shows.places shows.trace given.outcome (quiet_text given.outcome given.gives) (writes_quiet given.outcome given.gives) begun.steps in
+        let first = written_first content map input plan bound shows.places shows.trace given.outcome (given_text given.outcome given.gives) (writes_given given.outcome given.gives) begun.steps in
         front_of given.outcome given.gives
-        (AppendsFront-same (AppendsFront-first (first_front old new (lines_from machinery shows.trace begun.steps (Go (machine_opening machinery input))) begun.puts) first.more) (quiet_text given.outcome given.gives) first.is)
+        (AppendsFront-same (AppendsFront-first (first_front old new (lines_from machinery shows.trace begun.steps (Go (machine_opening machinery input))) begun.puts) first.more) (given_text given.outcome given.gives) first.is)
 
     pub front_is : WritesFrontFrom content machinery shows (machine_opening machinery input) old new → WritesFrontOver content map input plan bound shows old.written new.written
     front_is (inl begun) = begun_front begun
@@ -373,10 +383,10 @@ module _ (content : ModuleContent) (map : StackMap) (input : List ℤ) (plan : L
 
 -- ---- runs of verified modules over their own maps
 
-module _ (content : ModuleContent) (sound : IsSound content) (bundles : All HasNoBundle content.funcs) (input : List ℤ) (plan : List PlanLine) (bound : ℕ) (shows : Shows) (old new : Option (List ℕ)) where
+module _ (content : ModuleContent) (sound : IsSound content) (input : List ℤ) (plan : List PlanLine) (bound : ℕ) (shows : Shows) (old new : Option (List ℕ)) where
   own_seen : (ran : Ran) → IsRunOver content (map_of content) input plan bound shows ran old new → IsRunUnseen content input plan bound shows ran old new
   own_seen ran over =
-      let writes = over.unnamed (names_nothing content bundles) in
+      let writes = over.writes in
       let machine = over.outcome in
       let like = seen_here content sound input plan bound machine writes.gives in
       let outcome = like.outcome in

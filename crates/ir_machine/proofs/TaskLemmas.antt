@@ -18,7 +18,8 @@ use Rattle.machine_meaning.specs.Moving.{joined, walked_task, walked_tasks}
 use Rattle.machine_frames.specs.declared.tasks.Task.{Task}
 use Rattle.machine_frames.specs.Frames.{frame_of, below_of, frames_of}
 use Rattle.ir_machine.specs.Executors.{waiting, kept, without_words}
-use Rattle.ir_machine.specs.Events.{IsLost, before_walk}
+use Rattle.machine_frames.specs.declared.frames.Frame.{Frame as Standing}
+use Rattle.ir_machine.specs.Events.{IsLost, before_walk, frame_or, next_frame, unwalked}
 
 pub waiting_at : (tasks : List (Option Task)) (task : ℕ) (found : Option (Option Task)) → slice_get tasks task ≡ found
     → slice_get (map waiting tasks) task ≡ option_map waiting found
@@ -105,6 +106,29 @@ moved_seen machine run after task tasks others heap now run_is others_are heap_i
 
 pub same_count : (tasks others : List (Option Task)) → map waiting others ≡ map waiting tasks → length others ≡ length tasks
 same_count tasks others e = omega (arith, ap length e, length-map others waiting, length-map tasks waiting)
+
+-- tasks that are the same but for the words of their stacks have the same frames
+unwalked_waits : (tasks : List (Option Task)) → map waiting (map unwalked tasks) ≡ map waiting tasks
+unwalked_waits [] = refl
+unwalked_waits (None ∷ tasks) = let none : List Frame = [] in ap (λ (rest : List (List Frame)). none ∷ rest) (unwalked_waits tasks)
+unwalked_waits (Some task ∷ tasks) = ap (λ (rest : List (List Frame)). frames_of task ∷ rest) (unwalked_waits tasks)
+
+pub same_waits : (tasks others : List (Option Task)) → map unwalked others ≡ map unwalked tasks → map waiting others ≡ map waiting tasks
+same_waits tasks others same = sym (unwalked_waits others) ∙ ap (map waiting) same ∙ unwalked_waits tasks
+
+next_unwalked : (to : ℕ) (frame : Standing) (tasks : List (Option Task)) → next_frame (Some to) frame (map unwalked tasks) ≡ next_frame (Some to) frame tasks
+next_unwalked to frame tasks = ap (λ (found : Option (Option Task)). frame_or (unwrap_or found None) frame) (slice_get-map unwalked tasks to) ∙ by (slice_get tasks to)
+  where
+    by : (found : Option (Option Task)) → frame_or (unwrap_or (option_map unwalked found) None) frame ≡ frame_or (unwrap_or found None) frame
+    by None = refl
+    by (Some None) = refl
+    by (Some (Some task)) = refl
+
+pub same_next : (to : Option ℕ) (frame : Standing) (tasks others : List (Option Task)) → map unwalked others ≡ map unwalked tasks
+    → next_frame to frame others ≡ next_frame to frame tasks
+same_next None frame tasks others same = refl
+same_next (Some to) frame tasks others same =
+    sym (next_unwalked to frame others) ∙ ap (next_frame (Some to) frame) same ∙ next_unwalked to frame tasks
 
 -- ---- the walk over all tasks
 
@@ -214,7 +238,7 @@ take_set (y ∷ xs) zero x below = refl
 take_set (y ∷ xs) (suc i) x below = ap (λ rest. y ∷ rest) (take_set xs i x (omega arith))
 
 pub record WalkedTo (machinery : Machinery) (moves : List Moved) (initial tasks : List (Option Task)) (place : ℕ) : Type 0 where
-  pub frames : map waiting tasks ≡ map waiting initial
+  pub frames : map unwalked tasks ≡ map unwalked initial
   pub rest : drop place tasks ≡ drop place initial
   pub walks : walk_of machinery moves initial ≡ before_walk (take place (map kept tasks)) (walk_of machinery moves (drop place initial))
 
@@ -222,10 +246,10 @@ before_joined : (done : List (List ℕ)) (words : List ℕ) (walk : Result (List
 before_joined done words (Ok rest) = ap Ok (sym (append_assoc done (words ∷ []) rest))
 before_joined done words (Err lost) = refl
 
-same_again : (tasks : List (Option Task)) (place : ℕ) (one : Option Task) → place < length tasks → one ≡ get_or tasks place one → set (map waiting tasks) place (waiting one) ≡ map waiting tasks
+same_again : (tasks : List (Option Task)) (place : ℕ) (one : Option Task) → place < length tasks → one ≡ get_or tasks place one → set (map unwalked tasks) place (unwalked one) ≡ map unwalked tasks
 same_again [] place one below read = refl
-same_again (x ∷ tasks) zero one below read = ap (λ (o : Option Task). waiting o ∷ map waiting tasks) read
-same_again (x ∷ tasks) (suc place) one below read = ap (λ rest. waiting x ∷ rest) (same_again tasks place one (omega arith) read)
+same_again (x ∷ tasks) zero one below read = ap (λ (o : Option Task). unwalked o ∷ map unwalked tasks) read
+same_again (x ∷ tasks) (suc place) one below read = ap (λ rest. unwalked x ∷ rest) (same_again tasks place one (omega arith) read)
 
 module _ (machinery : Machinery) (moves : List Moved) (initial tasks : List (Option Task)) (place : ℕ) (one : Option Task) (below : place < length tasks) (read : one ≡ get_or tasks place one)
     (so_far : WalkedTo machinery moves initial tasks place) where
@@ -238,13 +262,13 @@ module _ (machinery : Machinery) (moves : List Moved) (initial tasks : List (Opt
   walks_here : walk_of machinery moves initial ≡ before_walk (take place (map kept tasks)) (joined (walked_task machinery moves (waiting one) (kept one)) (walk_of machinery moves (drop (suc place) initial)))
   walks_here = so_far.walks ∙ ap (λ (ts : List (Option Task)). before_walk (take place (map kept tasks)) (walk_of machinery moves ts)) here
 
-  pub walks_more : (next : Option Task) → waiting next ≡ waiting one → walked_task machinery moves (waiting one) (kept one) ≡ Ok (kept next)
+  pub walks_more : (next : Option Task) → unwalked next ≡ unwalked one → walked_task machinery moves (waiting one) (kept one) ≡ Ok (kept next)
       → WalkedTo machinery moves initial (set tasks place next) (place + 1)
   walks_more next same walked =
       let more : place + 1 ≡ suc place = omega arith in
       let few : place < length (map kept tasks) = omega (arith, length-map tasks kept) in
       rw more (record {
-        frames = map-set waiting tasks place next ∙ ap (set (map waiting tasks) place) same ∙ same_again tasks place one below read ∙ so_far.frames;
+        frames = map-set unwalked tasks place next ∙ ap (set (map unwalked tasks) place) same ∙ same_again tasks place one below read ∙ so_far.frames;
         rest = drop_set tasks place next ∙ same_rest;
         walks = walks_here
             ∙ ap (λ (w : Result (List ℕ) ℕ). before_walk (take place (map kept tasks)) (joined w (walk_of machinery moves (drop (suc place) initial)))) walked
@@ -253,8 +277,8 @@ module _ (machinery : Machinery) (moves : List Moved) (initial tasks : List (Opt
             (sym (ap (take (suc place)) (map-set kept tasks place next) ∙ take_set (map kept tasks) place (kept next) few));
       })
 
-  pub kept_more : (next : Option Task) → waiting next ≡ waiting one → map waiting (set tasks place next) ≡ map waiting initial
-  kept_more next same = map-set waiting tasks place next ∙ ap (set (map waiting tasks) place) same ∙ same_again tasks place one below read ∙ so_far.frames
+  pub kept_more : (next : Option Task) → unwalked next ≡ unwalked one → map unwalked (set tasks place next) ≡ map unwalked initial
+  kept_more next same = map-set unwalked tasks place next ∙ ap (set (map unwalked tasks) place) same ∙ same_again tasks place one below read ∙ so_far.frames
 
   pub walks_lost : (address : ℕ) → walked_task machinery moves (waiting one) (kept one) ≡ Err address → IsLost (walk_of machinery moves initial)
   walks_lost address lost = record {

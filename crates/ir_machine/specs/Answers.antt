@@ -4,14 +4,12 @@ use Rattle.std.specs.List.{All, concat}
 use Rattle.tool_io.specs.Sink.{append_known, AppendsFront}
 use Rattle.piece_writer.specs.LinePuts.{IsShort, PutsFirst, PutsLines, SinkTold}
 use Rattle.sp_ids.specs.declared.ends.End.{End}
-use Rattle.sp_ids.specs.declared.ends.End.TheVariants.{Trap}
 use Rattle.ir_ast.specs.Modules.{ModuleContent}
 use Rattle.move_plan.specs.declared.plan_lines.PlanLine.{PlanLine}
 use Rattle.move_plan.specs.Plans.{go}
 use Rattle.map_bytes.specs.Maps.{StackMap, IsMapOf}
 use Rattle.moving_heap.specs.Settled.{AreSettled}
 use Rattle.stackmap_write.specs.ModuleMaps.{map_of}
-use Rattle.frame_walk.specs.Maps.{FrameEntry, deopt_places, found_in}
 use Rattle.object_meaning.specs.Runs.{Ends, Go, Reaches}
 use Rattle.object_meaning.specs.Effects.{Progress, line_count, printed_line}
 use Rattle.object_meaning.specs.Outcomes.{Outcome, whole_text}
@@ -21,9 +19,10 @@ use Rattle.machine_meaning.specs.Machines.{Machine, Machinery}
 use Rattle.machine_meaning.specs.Code.{machinery_of}
 use Rattle.machine_meaning.specs.MachineRuns.{MachineGives, MachineOutcome, machine_proceeds}
 use Rattle.machine_meaning.specs.MachineSteps.{machine_step}
+use Rattle.machine_meaning.specs.TrapLines.{waiting_lines}
 use Rattle.moves_unseen.specs.Statements.{IsSeen}
 use Rattle.tool_report.specs.Closings.{closing_line}
-use Rattle.run_texts.specs.RunTexts.{RunWrites, RunWritesQuiet, end_lines, lines_from, run_lines}
+use Rattle.run_texts.specs.RunTexts.{RunWrites, lines_from, lines_to_end, run_lines}
 use Rattle.run_tasks.specs.declared.runs.Ran.{Ran}
 use Rattle.run_tasks.specs.Runs.{ran_of}
 use Rattle.run_traces.specs.declared.happenings.Happening.{Happening}
@@ -38,25 +37,13 @@ use Rattle.ir_machine.specs.declared.executor.Did.{Did}
 use Rattle.ir_machine.specs.declared.executor.Did.TheVariants.{GoesOn, Prints, Ends as Finishes}
 use Rattle.ir_machine.specs.declared.turns.Turn.{Turn}
 
--- no record that a map has at a return address has "deopt" locations
-abbrev pub NamesNothing : StackMap → Type 0
-NamesNothing map = (address : ℕ) (one : FrameEntry) → found_in map address ≡ Some one → deopt_places one ≡ []
-
--- the end of a run at which waiting frames show nothing
-abbrev pub IsUntrapped : End → Type 0
-IsUntrapped (Trap trap) = ⊥
-IsUntrapped end = Unit {0}
-
--- the answer is that of the machine's run over a map, and its text was written, with places and trace or without; at a trap without
--- what the waiting frames show. Where they show nothing, that is the whole text
+-- the answer is that of the machine's run over a map, and its text was written, with places and trace or without
 pub record IsRunOver (content : ModuleContent) (map : StackMap) (input : List ℤ) (plan : List PlanLine) (bound : ℕ) (shows : Shows) (ran : Ran) (old new : Option (List ℕ)) : Type 0 where
   pub outcome : MachineOutcome
   pub text : List ℕ
-  pub writes : RunWritesQuiet content map input plan bound shows.places shows.trace outcome text
+  pub writes : RunWrites content map input plan bound shows.places shows.trace outcome text
   pub answer : ran ≡ ran_of outcome.end outcome.func outcome.steps outcome.events outcome.printed
   pub written : new ≡ append_known old text
-  pub untrapped : IsUntrapped ran.end → RunWrites content map input plan bound shows.places shows.trace outcome text
-  pub unnamed : NamesNothing map → RunWrites content map input plan bound shows.places shows.trace outcome text
 
 -- the same of the map that these bytes are
 pub record IsRun (content : ModuleContent) (bytes : List ℕ) (input : List ℤ) (plan : List PlanLine) (bound : ℕ) (shows : Shows) (ran : Ran) (old new : Option (List ℕ)) : Type 0 where
@@ -68,10 +55,8 @@ pub record IsRun (content : ModuleContent) (bytes : List ℕ) (input : List ℤ)
 pub record WritesFrontOver (content : ModuleContent) (map : StackMap) (input : List ℤ) (plan : List PlanLine) (bound : ℕ) (shows : Shows) (old new : Option (List ℕ)) : Type 0 where
   pub outcome : MachineOutcome
   pub text : List ℕ
-  pub writes : RunWritesQuiet content map input plan bound shows.places shows.trace outcome text
+  pub writes : RunWrites content map input plan bound shows.places shows.trace outcome text
   pub front : AppendsFront old new text
-  pub untrapped : IsUntrapped outcome.end → RunWrites content map input plan bound shows.places shows.trace outcome text
-  pub unnamed : NamesNothing map → RunWrites content map input plan bound shows.places shows.trace outcome text
 
 -- and over the map that these bytes are
 pub record WritesFront (content : ModuleContent) (bytes : List ℕ) (input : List ℤ) (plan : List PlanLine) (bound : ℕ) (shows : Shows) (old new : Option (List ℕ)) : Type 0 where
@@ -79,11 +64,11 @@ pub record WritesFront (content : ModuleContent) (bytes : List ℕ) (input : Lis
   pub is_map : IsMapOf bytes map
   pub front : WritesFrontOver content map input plan bound shows old new
 
--- the lines of the machine's run over a map that gives this outcome, with places and trace or without, but for what waiting frames show
+-- the lines of the machine's run over a map that gives this outcome, with places and trace or without
 abbrev pub lines_over : (content : ModuleContent) (map : StackMap) (input : List ℤ) (plan : List PlanLine) (bound : ℕ) (shows : Shows) (outcome : MachineOutcome)
     → MachineGives content map input plan bound outcome → List (List ℕ)
 lines_over content map input plan bound shows outcome gives =
-    run_lines content (machinery_of content map plan bound) shows.places shows.trace input gives.run.within [] outcome.end gives.last.state
+    run_lines content (machinery_of content map plan bound) shows.places shows.trace input gives.run.within outcome.end gives.last.state
 
 -- each of these lines was put by one call, where none has more than 8,192 bytes
 pub record PutsRunOver (content : ModuleContent) (map : StackMap) (input : List ℤ) (plan : List PlanLine) (bound : ℕ) (shows : Shows) (old new : SinkTold) : Type 0 where
@@ -127,9 +112,12 @@ pub record IsRunUnseen (content : ModuleContent) (input : List ℤ) (plan : List
 -- ---- from a state on
 
 -- the lines of a run that has come to this end within so many steps
-abbrev pub quiet_lines : ModuleContent → Machinery → Shows → ℕ → Progress Machine → End → Machine → List (List ℕ)
-quiet_lines content machinery shows within start end last =
-    lines_from machinery shows.trace within (Go start) ++ end_lines content shows.places end last
+abbrev pub lines_of_run : ModuleContent → Machinery → Shows → ℕ → Progress Machine → End → Machine → List (List ℕ)
+lines_of_run content machinery shows = lines_to_end content machinery shows.places shows.trace
+
+-- what waiting frames show of a run that trapped in a state
+abbrev pub frames_shown : Machinery → Machine → List (List ℕ)
+frames_shown machinery machine = waiting_lines machinery machine.heap.stands (machinery.frame_words machine.state.running.func) machine.stack
 
 -- the answer is that of the run from a state on, and its text was written
 pub record IsRunFrom (content : ModuleContent) (machinery : Machinery) (shows : Shows) (start : Progress Machine) (ran : Ran) (old new : SinkTold) : Type 0 where
@@ -139,9 +127,9 @@ pub record IsRunFrom (content : ModuleContent) (machinery : Machinery) (shows : 
   pub steps : ran.steps ≡ last.state.state.steps
   pub events : ran.events ≡ last.state.state.events
   pub lines : ran.lines ≡ line_count last.lines
-  pub written : new.written ≡ append_known old.written (concat (quiet_lines content machinery shows run.within start ran.end last.state))
-  pub puts : All IsShort (quiet_lines content machinery shows run.within start ran.end last.state)
-      → PutsLines old new (quiet_lines content machinery shows run.within start ran.end last.state)
+  pub written : new.written ≡ append_known old.written (concat (lines_of_run content machinery shows run.within start ran.end last.state))
+  pub puts : All IsShort (lines_of_run content machinery shows run.within start ran.end last.state)
+      → PutsLines old new (lines_of_run content machinery shows run.within start ran.end last.state)
 
 -- the first ones of the lines that the first so many steps of a run write were put
 pub record BeginsText (machinery : Machinery) (trace : Bool) (start : Progress Machine) (old new : SinkTold) : Type 0 where
@@ -153,9 +141,9 @@ pub record BeginsWhole (content : ModuleContent) (machinery : Machinery) (shows 
   pub end : End
   pub last : Progress Machine
   pub run : Ends (machine_proceeds machinery) start end last
-  pub front : AppendsFront old.written new.written (concat (quiet_lines content machinery shows run.within start end last.state))
-  pub puts : All IsShort (quiet_lines content machinery shows run.within start end last.state)
-      → PutsFirst old new (quiet_lines content machinery shows run.within start end last.state)
+  pub front : AppendsFront old.written new.written (concat (lines_of_run content machinery shows run.within start end last.state))
+  pub puts : All IsShort (lines_of_run content machinery shows run.within start end last.state)
+      → PutsFirst old new (lines_of_run content machinery shows run.within start end last.state)
 
 abbrev pub WritesFrontFrom : ModuleContent → Machinery → Shows → Progress Machine → SinkTold → SinkTold → Type 0
 WritesFrontFrom content machinery shows start old new =

@@ -1,5 +1,7 @@
 -- What the executor's state stands for, and what a step did.
 use Rattle.std.specs.Prelude.{◌≡◌, ℕ, Bool, true, false, List, [], map, take, Option, Some, None}
+use Rattle.sp_ids.specs.declared.ends.End.{End}
+use Rattle.sp_ids.specs.declared.ends.End.TheVariants.{LostFrame}
 use Rattle.ir_ast.specs.declared.ops.Op.{Op}
 use Rattle.ir_ast.specs.declared.ops.Operand.{Operand}
 use Rattle.ir_ast.specs.declared.ops.Callee.{Callee}
@@ -55,12 +57,16 @@ effect_of GoesOn machine = goes_on machine
 effect_of (Prints word) machine = prints word machine
 effect_of (Ends end) machine = ends end machine
 
--- at an end stacks are no matter
+-- where a frame was lost stacks are no matter: some are walked, and others not
 abbrev pub without_words : Machine → Machine
 without_words machine = record machine { stack = []; stacks = [] }
 
+abbrev pub told_of : End → Machine → Machine
+told_of LostFrame machine = without_words machine
+told_of end machine = machine
+
 abbrev pub told : Effect Machine → Effect Machine
-told (ends end machine) = ends end (without_words machine)
+told (ends end machine) = ends end (told_of end machine)
 told effect = effect
 
 -- what was done is this effect, and this is left

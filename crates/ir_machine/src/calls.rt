@@ -106,7 +106,7 @@ impl<'m, 'i> Executor<'m, 'i> {
         let address = self
             .run
             .frame
-            .address_behind(&program.code, inst, rest.insts)?;
+            .address_behind(&program.code, inst, rest.insts);
         self.run
             .call(self.alloc, &program.code, func, operands, address)?;
         Ok(Did::GoesOn)

@@ -1,70 +1,30 @@
 //! Events: the moves of a group, with the walk over the stacks of all tasks; polls and new objects.
 
-ghost use Rattle.std.specs.Prelude.{◌≡◌, ◌≢◌, Some, None, [], map, if◌then◌else◌, IfOk, slice_get, IsTrue};
+ghost use Rattle.std.specs.Prelude.{◌≡◌, ◌≢◌, Some, None, [], map, if◌then◌else◌, IfOk, slice_get, unwrap_or, IsTrue, MatchOption};
 ghost use Rattle.ir_ast.specs.Objects.{number};
 ghost use Rattle.move_plan.specs.Plans.{flips, go, group};
-ghost use Rattle.object_meaning.specs.Effects.{Effect};
+ghost use Rattle.object_meaning.specs.Effects.{Effect, goes_on};
+ghost use Rattle.moving_heap.specs.Heaps.{HasPlace, heap_of};
 ghost use Rattle.machine_meaning.specs.Machines.{Machine};
-ghost use Rattle.machine_meaning.specs.Moving.{eventful, moved_by};
-ghost use Rattle.ir_machine.specs.Executors.{machinery, seen, waiting, kept, told, DoesSo, calls_at};
-ghost use Rattle.ir_machine.specs.Events.{or_lost, TaskWalked, SlotWalked, AllWalked, gone_to};
+ghost use Rattle.machine_meaning.specs.MachineTasks.{polled_machine};
+ghost use Rattle.machine_meaning.specs.Moving.{moved_by, moves_due};
+ghost use Rattle.machine_frames.specs.Frames.{CanGoOn};
+ghost use Rattle.ir_machine.specs.Executors.{machinery, effect_of, seen, told, DoesSo, calls_at};
+ghost use Rattle.ir_machine.specs.Events.{TaskWalked, SlotWalked, AllWalked, KeepsPlace, MakesObject, MovesSo, gone_to, next_frame, unwalked};
 
 use crate::calls::{set_task, take_task};
 use crate::executor::{Did, Executor, Program};
 use frame_walk::walk;
-use ir_ast::{Callee, Inst, Operand};
+use ir_ast::{Callee, Cell, Inst, Operand};
 use machine_frames::Task;
 use machine_lines::fields_of;
 use move_plan::{Move, Plan};
-use moving_heap::{AllocFault, Moves};
+use moving_heap::{Moves, Places, Refused};
 use sp_ids::{End, Memory, Trap, sign};
 use std::mem;
 
 impl<'m, 'i> Executor<'m, 'i> {
-    // An event: its moves. Whether a frame was lost, and then nothing has moved.
-    fn happen(&mut self, program: &Program<'_, '_>) -> Result<bool, Memory>
-        ensures { IfOk result (λ lost. (next : Machine → Effect Machine) → told (eventful (machinery program.now) (seen self.old) next) ≡ told (or_lost lost (seen self.new) next)) }
-    {
-        self.events = self.events.saturating_add(1);
-        let flip = flip_of(program.plan, self.events);
-        let _ = self.heap.ready(group_of(program.plan, self.events), flip);
-        if self.heap.moves().is_empty() {
-            return Ok(false);
-        }
-        self.make_moves(program)
-    }
-
-    // The moves of the pending group.
-    fn make_moves(&mut self, program: &Program<'_, '_>) -> Result<bool, Memory>
-        requires due { self.old.heap.moves ≢ [] }
-        ensures { IfOk result (λ lost. (next : Machine → Effect Machine) → told (moved_by (machinery program.now) self.old.heap.moves (seen self.old) next) ≡ told (or_lost lost (seen self.new) next)) }
-    {
-        if waits_not(self.tasks.as_slice(), self.task) {
-            self.walk_all(program)
-        } else {
-            Err(Memory)
-        }
-    }
-
-    // The walk over all stacks, and the moves of the pending group.
-    fn walk_all(&mut self, program: &Program<'_, '_>) -> Result<bool, Memory>
-        requires due { self.old.heap.moves ≢ [] }
-        requires hole { slice_get self.old.tasks.items self.old.task ≡ Some None }
-        ensures { IfOk result (λ lost. (next : Machine → Effect Machine) → told (moved_by (machinery program.now) self.old.heap.moves (seen self.old) next) ≡ told (or_lost lost (seen self.new) next)) }
-    {
-        let lost = walk_task(program, &mut self.run, self.heap.moves())?;
-        if lost {
-            return Ok(true);
-        }
-        let other = walk_tasks(program, self.tasks.as_mut_slice(), self.heap.moves())?;
-        if other {
-            return Ok(true);
-        }
-        self.heap.apply();
-        Ok(false)
-    }
-
-    // A poll is an event; then its `go` line holds, and the task that runs goes on.
+    // A poll is an event; then its `go` line holds, and the task that runs goes on. What it may want memory for is asked first.
     pub(crate) fn poll(
         &mut self,
         program: &Program<'_, '_>,
@@ -74,15 +34,53 @@ impl<'m, 'i> Executor<'m, 'i> {
     ) -> Result<Did, Memory>
         ensures { IfOk result (DoesSo (calls_at (machinery program.now) self.old inst.now rest.now Callee.Poll operands.now) self.new) }
     {
-        let lost = self.happen(program)?;
-        if lost {
-            return Ok(Did::Ends(End::LostFrame));
+        let event = self.events.saturating_add(1);
+        if !self.can_come_on(go_of(program.plan, event)) {
+            return Err(Memory);
         }
-        self.go_to(go_of(program.plan, self.events));
-        self.go_on(0)
+        if !waits_not(self.tasks.as_slice(), self.task) {
+            return Err(Memory);
+        }
+        self.events = event;
+        Ok(self.pass_event(program))
     }
 
-    // A new object is an event.
+    // The event of a poll, which is counted.
+    fn pass_event(&mut self, program: &Program<'_, '_>) -> Did
+        requires hole { slice_get self.old.tasks.items self.old.task ≡ Some None }
+        requires goes { CanGoOn (next_frame (go program.now.plan.now self.old.events) self.old.run.frame self.old.tasks.items) }
+        ensures { told (effect_of result (seen self.new)) ≡ told (moved_by (machinery program.now) (moves_due (machinery program.now) self.old.heap self.old.events) (seen self.old) (λ machine. goes_on (polled_machine (machinery program.now) machine))) }
+    {
+        let event = self.events;
+        let lost = happen(
+            program,
+            event,
+            self.heap.places_mut(),
+            &mut self.run,
+            self.tasks.as_mut_slice(),
+        );
+        if lost {
+            return Did::Ends(End::LostFrame);
+        }
+        self.go_to(go_of(program.plan, event));
+        self.run.resume(0);
+        Did::GoesOn
+    }
+
+    // Whether the task that runs behind a poll with this `go` line can go on there.
+    fn can_come_on(&self, to: Option<u64>) -> bool
+        ensures { IsTrue result → CanGoOn (next_frame to self.now.run.frame self.now.tasks.items) }
+    {
+        match to {
+            None => self.run.can_go_on(),
+            Some(to) => match task_at(self.tasks.as_slice(), to) {
+                None => self.run.can_go_on(),
+                Some(task) => task.can_go_on(),
+            },
+        }
+    }
+
+    // A new object is an event. Its room is taken first, and what else it may want memory for is asked.
     pub(crate) fn make(
         &mut self,
         program: &Program<'_, '_>,
@@ -93,23 +91,35 @@ impl<'m, 'i> Executor<'m, 'i> {
     ) -> Result<Did, Memory>
         ensures { IfOk result (DoesSo (calls_at (machinery program.now) self.old inst.now rest.now (Callee.New layout) operands.now) self.new) }
     {
-        let lost = self.happen(program)?;
-        if lost {
-            return Ok(Did::Ends(End::LostFrame));
-        }
         let count = sign(64, self.argument(operands, 0));
         let fields = fields_of(program.code.module().layouts(), layout);
-        match self.heap.alloc(layout, fields, count) {
-            Ok(address) => self.go_on(address),
-            Err(AllocFault::Count) => Ok(Did::Ends(End::Trap(Trap::Count))),
-            Err(AllocFault::Full) => Ok(Did::Ends(End::Trap(Trap::Full))),
-            Err(AllocFault::Memory) => Err(Memory),
+        if !self.run.can_go_on() {
+            return Err(Memory);
         }
+        if !waits_not(self.tasks.as_slice(), self.task) {
+            return Err(Memory);
+        }
+        let places = self.heap.places_mut();
+        places.reserve(fields, count)?;
+        let event = self.events.saturating_add(1);
+        self.events = event;
+        let did = make_object(
+            program,
+            event,
+            layout,
+            fields,
+            count,
+            places,
+            &mut self.run,
+            self.tasks.as_mut_slice(),
+        );
+        Ok(did)
     }
 
     // The task of a `go` line runs, if there is one.
     fn go_to(&mut self, to: Option<u64>)
-        ensures { seen self.new ≡ gone_to to (seen self.old) }
+        ensures goes { seen self.new ≡ gone_to to (seen self.old) }
+        ensures frame { self.new.run.frame ≡ next_frame to self.old.run.frame self.old.tasks.items }
     {
         match to {
             None => {}
@@ -119,7 +129,8 @@ impl<'m, 'i> Executor<'m, 'i> {
 
     // Another task runs, if it was started, has not ended and isn't the running one.
     fn switch_to(&mut self, to: u64)
-        ensures { seen self.new ≡ gone_to (Some to) (seen self.old) }
+        ensures goes { seen self.new ≡ gone_to (Some to) (seen self.old) }
+        ensures frame { self.new.run.frame ≡ next_frame (Some to) self.old.run.frame self.old.tasks.items }
     {
         let Some(run) = take_task(&mut self.tasks, to) else {
             return;
@@ -129,6 +140,79 @@ impl<'m, 'i> Executor<'m, 'i> {
         set_task(&mut self.tasks, to, None);
         self.task = to;
     }
+}
+
+// The event of a new object, for which there is room: its moves, then the object, and the running task goes on behind it.
+fn make_object<'m>(
+    program: &Program<'_, '_>,
+    event: u64,
+    layout: u32,
+    fields: &[Cell],
+    count: i64,
+    places: &mut Places,
+    run: &mut Task<'m>,
+    tasks: &mut [Option<Task<'m>>],
+) -> Did
+    requires room { HasPlace places.old fields.now count }
+    requires goes { CanGoOn run.old.frame }
+    ensures { MakesObject (machinery program.now) event layout fields.now count run.old tasks.old places.old result run.new tasks.new places.new }
+{
+    let lost = happen(program, event, places, run, tasks);
+    if lost {
+        return Did::Ends(End::LostFrame);
+    }
+    match places.make(layout, fields, count) {
+        Ok(address) => {
+            run.resume(address);
+            Did::GoesOn
+        }
+        Err(Refused::Count) => Did::Ends(End::Trap(Trap::Count)),
+        Err(Refused::Full) => Did::Ends(End::Trap(Trap::Full)),
+    }
+}
+
+// An event: its moves. Whether a frame was lost, and then nothing has moved.
+fn happen<'m>(
+    program: &Program<'_, '_>,
+    event: u64,
+    places: &mut Places,
+    run: &mut Task<'m>,
+    tasks: &mut [Option<Task<'m>>],
+) -> bool
+    ensures moved { MovesSo (machinery program.now) (moves_due (machinery program.now) (heap_of places.old) event) run.old tasks.old places.old result run.new tasks.new places.new }
+    ensures run { run.new ≡ record run.old { stack = run.new.stack } }
+    ensures tasks { map unwalked tasks.new ≡ map unwalked tasks.old }
+    ensures room { KeepsPlace places.old places.new }
+{
+    let flip = flip_of(program.plan, event);
+    let _ = places.ready(group_of(program.plan, event), flip);
+    if places.moves().is_empty() {
+        return false;
+    }
+    make_moves(program, places, run, tasks)
+}
+
+// The walk over all stacks, and the moves of the pending group.
+fn make_moves<'m>(
+    program: &Program<'_, '_>,
+    places: &mut Places,
+    run: &mut Task<'m>,
+    tasks: &mut [Option<Task<'m>>],
+) -> bool
+    requires due { places.old.moves ≢ [] }
+    ensures moved { MovesSo (machinery program.now) places.old.moves run.old tasks.old places.old result run.new tasks.new places.new }
+    ensures run { run.new ≡ record run.old { stack = run.new.stack } }
+    ensures tasks { map unwalked tasks.new ≡ map unwalked tasks.old }
+    ensures room { KeepsPlace places.old places.new }
+{
+    if walk_task(program, run, places.moves()) {
+        return true;
+    }
+    if walk_tasks(program, tasks, places.moves()) {
+        return true;
+    }
+    places.apply();
+    false
 }
 
 pub(crate) fn flip_of(plan: &Plan, event: u64) -> Option<u64>
@@ -170,50 +254,47 @@ fn waits_not(tasks: &[Option<Task>], task: u64) -> bool
     tasks[task as usize].is_none()
 }
 
+// The frames of a task that waits.
+fn task_at<'t, 'm>(tasks: &'t [Option<Task<'m>>], task: u64) -> Option<&'t Task<'m>>
+    ensures { MatchOption result (unwrap_or (slice_get tasks.now task) None ≡ None) (λ found. unwrap_or (slice_get tasks.now task) None ≡ Some found.now) }
+{
+    if task >= tasks.len() as u64 {
+        return None;
+    }
+    tasks[task as usize].as_ref()
+}
+
 // The walk over the stack of a task. Whether a frame was lost.
-fn walk_task<'m>(
-    program: &Program<'_, '_>,
-    task: &mut Task<'m>,
-    moves: &Moves,
-) -> Result<bool, Memory>
-    ensures walked { IfOk result (λ lost. TaskWalked (machinery program.now) moves.now.moves task.old lost task.new) }
+fn walk_task<'m>(program: &Program<'_, '_>, task: &mut Task<'m>, moves: &Moves) -> bool
+    ensures walked { TaskWalked (machinery program.now) moves.now.moves task.old result task.new }
     ensures kept { task.new ≡ record task.old { stack = task.new.stack } }
 {
-    let address = task.frame.return_address(&program.code)?;
+    let address = task.frame.return_address(&program.code);
     match walk(&program.map, &mut task.stack, address, moves) {
-        Ok(()) => Ok(false),
-        Err(_lost) => Ok(true),
+        Ok(()) => false,
+        Err(_lost) => true,
     }
 }
 
-fn walk_slot<'m>(
-    program: &Program<'_, '_>,
-    slot: &mut Option<Task<'m>>,
-    moves: &Moves,
-) -> Result<bool, Memory>
-    ensures walked { IfOk result (λ lost. SlotWalked (machinery program.now) moves.now.moves slot.old lost slot.new) }
-    ensures kept { waiting slot.new ≡ waiting slot.old }
+fn walk_slot<'m>(program: &Program<'_, '_>, slot: &mut Option<Task<'m>>, moves: &Moves) -> bool
+    ensures walked { SlotWalked (machinery program.now) moves.now.moves slot.old result slot.new }
+    ensures kept { unwalked slot.new ≡ unwalked slot.old }
 {
     match slot {
-        None => Ok(false),
+        None => false,
         Some(task) => walk_task(program, task, moves),
     }
 }
 
 // The walk over the stacks of these tasks, up to a frame that was lost.
-fn walk_tasks<'m>(
-    program: &Program<'_, '_>,
-    tasks: &mut [Option<Task<'m>>],
-    moves: &Moves,
-) -> Result<bool, Memory>
-    ensures walked { IfOk result (λ lost. AllWalked (machinery program.now) moves.now.moves tasks.old lost tasks.new) }
-    ensures kept { map waiting tasks.new ≡ map waiting tasks.old }
+fn walk_tasks<'m>(program: &Program<'_, '_>, tasks: &mut [Option<Task<'m>>], moves: &Moves) -> bool
+    ensures walked { AllWalked (machinery program.now) moves.now.moves tasks.old result tasks.new }
+    ensures kept { map unwalked tasks.new ≡ map unwalked tasks.old }
 {
     for place in 0..tasks.len() {
-        let lost = walk_slot(program, &mut tasks[place], moves)?;
-        if lost {
-            return Ok(true);
+        if walk_slot(program, &mut tasks[place], moves) {
+            return true;
         }
     }
-    Ok(false)
+    false
 }

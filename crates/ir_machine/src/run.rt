@@ -8,7 +8,6 @@ ghost use Rattle.tool_io.specs.Sink.{append_known, AppendsFront};
 ghost use Rattle.piece_writer.specs.LinePuts.{IsShort, PutsFirst, PutsLines, told_by};
 ghost use Rattle.map_bytes.specs.declared.rules.MapFault.{MapFault};
 ghost use Rattle.map_bytes.specs.Faults.{IsFirstFault};
-ghost use Rattle.ir_ast.specs.Bundles.{HasNoBundle};
 ghost use Rattle.moving_heap.specs.Settled.{AreSettled};
 ghost use Rattle.stackmap_view.specs.Maps.{stack_map};
 ghost use Rattle.stackmap_write.specs.ModuleMaps.{map_of};
@@ -16,10 +15,11 @@ ghost use Rattle.object_meaning.specs.Lines.{main_of};
 ghost use Rattle.object_meaning.specs.Effects.{printed_line};
 ghost use Rattle.object_meaning.specs.Texts.{function_name};
 ghost use Rattle.machine_meaning.specs.MachineRuns.{machine_opening};
-ghost use Rattle.run_texts.specs.RunTexts.{end_lines};
+ghost use Rattle.machine_meaning.specs.TrapLines.{closing_of};
+ghost use Rattle.run_texts.specs.RunTexts.{end_lines, last_lines};
 ghost use Rattle.ir_machine.specs.Executors.{machinery, seen};
 ghost use Rattle.ir_machine.specs.Traces.{did_lose, shown_lines};
-ghost use Rattle.ir_machine.specs.Answers.{IsRun, IsRunFrom, IsRunOver, IsRunUnseen, PutsFront, PutsFrontOver, PutsRun, PutsRunOver, WritesFront, WritesFrontFrom, WritesFrontOver, counted_by, ended_of, lines_of_step, unprinted};
+ghost use Rattle.ir_machine.specs.Answers.{IsRun, IsRunFrom, IsRunOver, IsRunUnseen, PutsFront, PutsFrontOver, PutsRun, PutsRunOver, WritesFront, WritesFrontFrom, WritesFrontOver, counted_by, ended_of, frames_shown, lines_of_step, unprinted};
 
 use crate::executor::{Did, Executor, Program};
 use arrayvec::ArrayVec;
@@ -38,6 +38,7 @@ use statepoint_verify::Verified;
 use std::alloc::Global;
 use tool_io::{Failed, Sink};
 use tool_report::closing;
+use trap_frames::{Standing, write_waiting};
 
 /// What is shown of a run besides what it prints and the line that closes it: where its objects stand in the end, and what its events
 /// are and move.
@@ -102,8 +103,8 @@ impl From<Stopped> for SureFault {
 }
 
 /// Runs `@main` of a rewritten module over the stack map that these bytes are, which may take these many steps, over this
-/// input and under this plan. It writes the trace of its events, where `shows` has it, each line that it prints, the line that closes
-/// the run, and the places of its objects, where `shows` has them, each line by one `put`.
+/// input and under this plan. It writes the trace of its events, where `shows` has it, each line that it prints, what waiting frames
+/// show at a trap, the line that closes the run, and the places of its objects, where `shows` has them, each line by one `put`.
 ///
 /// `BadMap` comes exactly where the bytes are no stack map, with their first fault, before anything is written. `Write` comes
 /// only where the sink counted a fault. After it, and after `Memory`, a front of the run's text was written. Each line is put by one
@@ -153,7 +154,7 @@ pub fn run_verified<O: Sink>(
     out: &mut O,
 ) -> Result<Ran, SureFault>
     ensures ran { IfOk result (λ ran. IsRunOver verified.now.content (stack_map map.now) input.now plan.now steps shows ran (O.written out.old) (O.written out.new)) }
-    ensures seen { All HasNoBundle verified.now.content.funcs → stack_map map.now ≡ map_of verified.now.content
+    ensures seen { stack_map map.now ≡ map_of verified.now.content
         → IfOk result (λ ran. IsRunUnseen verified.now.content input.now plan.now steps shows ran (O.written out.old) (O.written out.new)) }
     ensures front { OnErr result (WritesFrontOver verified.now.content (stack_map map.now) input.now plan.now steps shows (O.written out.old) (O.written out.new)) }
     ensures by_one_put { OnOk result (PutsRunOver verified.now.content (stack_map map.now) input.now plan.now steps shows (told_by O.written O.puts out.old) (told_by O.written O.puts out.new)) }
@@ -332,8 +333,77 @@ fn loses(did: Did) -> bool
     matches!(did, Did::Ends(End::LostFrame))
 }
 
-// Writes the line that closes a run, and where its objects stand, if that is shown.
+// Writes what stands behind the lines of the last step: what waiting frames show, the line that closes the run, and where its objects
+// stand, if that is shown.
 fn write_end<O: Sink>(
+    program: &Program,
+    executor: &Executor,
+    end: End,
+    places: bool,
+    out: &mut O,
+) -> Result<(), SureFault>
+    requires settled { AreSettled executor.now.heap.stands }
+    ensures ok { OnOk result (O.written out.new ≡ append_known (O.written out.old) (concat (last_lines program.now.code (machinery program.now) places end (seen executor.now)))) }
+    ensures err { OnErr result (AppendsFront (O.written out.old) (O.written out.new) (concat (last_lines program.now.code (machinery program.now) places end (seen executor.now)))) }
+    ensures by_one_put { All IsShort (last_lines program.now.code (machinery program.now) places end (seen executor.now)) → OnOk result (PutsLines (told_by O.written O.puts out.old) (told_by O.written O.puts out.new) (last_lines program.now.code (machinery program.now) places end (seen executor.now))) }
+    ensures cut { All IsShort (last_lines program.now.code (machinery program.now) places end (seen executor.now)) → OnErr result (PutsFirst (told_by O.written O.puts out.old) (told_by O.written O.puts out.new) (last_lines program.now.code (machinery program.now) places end (seen executor.now))) }
+    ensures failed { IsErrOf result SureFault.Write → Rose (O.faults out.old) (O.faults out.new) }
+    ensures count { O.faults out.old ≤ O.faults out.new }
+{
+    write_waits(program, executor, end, out)?;
+    write_closing(program, executor, end, places, out)
+}
+
+// Writes what waiting frames show, where the run trapped.
+fn write_waits<O: Sink>(
+    program: &Program,
+    executor: &Executor,
+    end: End,
+    out: &mut O,
+) -> Result<(), SureFault>
+    requires settled { AreSettled executor.now.heap.stands }
+    ensures ok { OnOk result (O.written out.new ≡ append_known (O.written out.old) (concat (closing_of (machinery program.now) end (seen executor.now)))) }
+    ensures err { OnErr result (AppendsFront (O.written out.old) (O.written out.new) (concat (closing_of (machinery program.now) end (seen executor.now)))) }
+    ensures by_one_put { All IsShort (closing_of (machinery program.now) end (seen executor.now)) → OnOk result (PutsLines (told_by O.written O.puts out.old) (told_by O.written O.puts out.new) (closing_of (machinery program.now) end (seen executor.now))) }
+    ensures cut { All IsShort (closing_of (machinery program.now) end (seen executor.now)) → OnErr result (PutsFirst (told_by O.written O.puts out.old) (told_by O.written O.puts out.new) (closing_of (machinery program.now) end (seen executor.now))) }
+    ensures failed { IsErrOf result SureFault.Write → Rose (O.faults out.old) (O.faults out.new) }
+    ensures count { O.faults out.old ≤ O.faults out.new }
+{
+    match end {
+        End::Trap(_) => write_frames(program, executor, out),
+        _ => Ok(()),
+    }
+}
+
+fn write_frames<O: Sink>(
+    program: &Program,
+    executor: &Executor,
+    out: &mut O,
+) -> Result<(), SureFault>
+    requires settled { AreSettled executor.now.heap.stands }
+    ensures ok { OnOk result (O.written out.new ≡ append_known (O.written out.old) (concat (frames_shown (machinery program.now) (seen executor.now)))) }
+    ensures err { OnErr result (AppendsFront (O.written out.old) (O.written out.new) (concat (frames_shown (machinery program.now) (seen executor.now)))) }
+    ensures by_one_put { All IsShort (frames_shown (machinery program.now) (seen executor.now)) → OnOk result (PutsLines (told_by O.written O.puts out.old) (told_by O.written O.puts out.new) (frames_shown (machinery program.now) (seen executor.now))) }
+    ensures cut { All IsShort (frames_shown (machinery program.now) (seen executor.now)) → OnErr result (PutsFirst (told_by O.written O.puts out.old) (told_by O.written O.puts out.new) (frames_shown (machinery program.now) (seen executor.now))) }
+    ensures failed { IsErrOf result SureFault.Write → Rose (O.faults out.old) (O.faults out.new) }
+    ensures count { O.faults out.old ≤ O.faults out.new }
+{
+    let own = program.code.frame_words(executor.run.frame.func)?;
+    let objects = Standing::of(&executor.heap);
+    write_waiting(
+        executor.alloc,
+        &program.map,
+        &executor.run.stack,
+        own,
+        &objects,
+        program.code.module(),
+        out,
+    )?;
+    Ok(())
+}
+
+// Writes the line that closes a run, and where its objects stand, if that is shown.
+fn write_closing<O: Sink>(
     program: &Program,
     executor: &Executor,
     end: End,

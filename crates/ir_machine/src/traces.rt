@@ -153,7 +153,7 @@ fn add_task(
 ) -> Result<(), Memory>
     ensures { OnOk result (map change_of slots.new.items ≡ map change_of slots.old.items ++ task_changes (machinery program.now) moves.now.moves number (frames_of task.now) task.now.stack) }
 {
-    let address = task.frame.return_address(&program.code)?;
+    let address = task.frame.return_address(&program.code);
     add_changes(
         &program.map,
         &task.stack,

@@ -1,5 +1,5 @@
 -- What a frame stands for: a frame of the address machine, whose registers hold words.
-use Rattle.std.specs.Prelude.{ℕ, ◌-◌, Bool, true, false, List, ◌∷◌, ◌++◌, length, map, filter, drop, replicate, reverse}
+use Rattle.std.specs.Prelude.{ℕ, ◌+◌, ◌-◌, ◌<◌, ◌^◌, Bool, true, false, List, ◌∷◌, ◌++◌, length, map, filter, drop, replicate, reverse}
 use Rattle.ir_ast.specs.declared.ops.Op.{Op}
 use Rattle.ir_ast.specs.declared.ops.Op.TheVariants.{Statepoint}
 use Rattle.ir_ast.specs.Insts.{Instruction}
@@ -25,6 +25,10 @@ frame_of frame = record {
   rest = lines_left frame.next frame.rest.insts.now;
   registers = map number frame.registers.items;
 }
+
+-- the results that are left of its block have registers below 2^64
+abbrev pub CanGoOn : Standing → Type 0
+CanGoOn frame = frame.next + length frame.rest.insts.now < 2 ^ 64
 
 -- the first frame of a call
 abbrev pub entered_in : ModuleContent → ℕ → List Datum → Frame

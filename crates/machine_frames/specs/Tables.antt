@@ -1,8 +1,9 @@
 -- What is made once of each function: how many instructions stand before each block, the first register of each, and the blocks
 -- as jumps come to them.
-use Rattle.std.specs.Prelude.{◌≡◌, ℕ, ◌+◌, List, [], ◌∷◌, length, map}
+use Rattle.std.specs.Prelude.{◌≡◌, ℕ, ◌+◌, ◌-◌, ◌<◌, ◌≤◌, ◌^◌, List, [], ◌∷◌, length, map, slice_index, slice_index_or}
+use Rattle.std.specs.List.{All}
 use Rattle.ir_ast.specs.Blocks.{BasicBlock}
-use Rattle.ir_ast.specs.Funcs.{Function}
+use Rattle.ir_ast.specs.Funcs.{Function, instructions_of}
 use Rattle.ir_ast.specs.Modules.{ModuleContent}
 use Rattle.object_meaning.specs.Lines.{after_all, first_register, insts_of, registers_of}
 use Rattle.frame_forms.specs.ModuleLayouts.{FunctionLayout, layout_of}
@@ -13,8 +14,9 @@ pub record Tabled : Type 0 where
   pub firsts : List ℕ
   pub sites : List Site
 
+-- how many instructions stand before each block, and last how many there are
 abbrev pub befores_from : ℕ → List BasicBlock → List ℕ
-befores_from count [] = []
+befores_from count [] = count ∷ []
 befores_from count (block ∷ blocks) = count ∷ befores_from (count + length block.insts) blocks
 
 abbrev pub sites_from : ℕ → List BasicBlock → List Site
@@ -36,7 +38,16 @@ table_of func = record {
   sites = sites_of func;
 }
 
--- the layout and the tables of a module
+-- how many instructions stand before a block; all, where there is no such block
+abbrev pub before_in : List ℕ → ℕ → ℕ
+before_in befores block = slice_index_or befores block (slice_index befores (length befores - 1))
+
+abbrev pub IsSmallFunction : Function → Type 0
+IsSmallFunction func = length (instructions_of func.blocks) < 2 ^ 30
+
+-- the layout and the tables of a module, whose code is small
 pub record AreOf (content : ModuleContent) (laid : List FunctionLayout) (tables : List Tabled) : Type 0 where
   pub laid_is : laid ≡ layout_of content
   pub tables_are : tables ≡ map table_of content.funcs
+  pub few : length content.funcs ≤ 4096
+  pub small : All IsSmallFunction content.funcs

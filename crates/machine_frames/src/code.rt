@@ -1,11 +1,12 @@
 //! A rewritten module as it is run: its instructions, the registers of their results, and their addresses.
 
-ghost use Rattle.std.specs.Prelude.{◌≡◌, [], ◌≤◌, IfOk, length, map, MatchOption, None, Some, slice_get, slice_index, ◌-◌};
+ghost use Rattle.std.specs.Prelude.{◌≡◌, [], ◌≤◌, ◌<◌, IfOk, OnOk, length, map, MatchOption, None, Some, slice_get, slice_index, ◌-◌};
+ghost use Rattle.std.specs.List.{All};
 ghost use Rattle.std.specs.Option.{option_map, option_map_or};
 ghost use Rattle.ir_ast.specs.Funcs.{content_of};
 ghost use Rattle.object_meaning.specs.Lines.{insts_in, insts_of, first_register, register_count};
-ghost use Rattle.machine_meaning.specs.Code.{code_address, place_before, words_in};
-ghost use Rattle.machine_frames.specs.Tables.{site_of, table_of};
+ghost use Rattle.machine_meaning.specs.Code.{code_address, words_in};
+ghost use Rattle.machine_frames.specs.Tables.{site_of, table_of, before_in, IsSmallFunction};
 
 use crate::landings::{Landing, landings_of};
 use crate::numbering::{befores_of, registers_of};
@@ -17,7 +18,7 @@ use sp_ids::{FuncId, Memory};
 use std::alloc::Global;
 use std::marker::Model;
 
-/// How many instructions stand before each block of a function, and the register of the first result of each; last the
+/// How many instructions stand before each block of a function, and last how many it has; the register of the first result of each; last the
 /// number of its registers. The blocks as jumps come to them.
 #[derive(Drop)]
 pub(crate) struct Table<'m> {
@@ -142,27 +143,17 @@ impl<'m> Code<'m> {
         Ok(words as u32)
     }
 
-    /// The address of the instruction with this place in its block.
-    pub fn address(&self, func: u32, block: u32, place: usize) -> Result<u64, Memory>
-        ensures { IfOk result (λ address. address ≡ code_address self.now func block place) }
-    {
-        if func as usize >= self.layouts.function_count() {
-            return Err(Memory);
-        }
-        let start = self.layouts.address(FuncId(func));
-        let before = self.before(func, block)?;
-        let number = before.checked_add(place).ok_or(Memory)?;
-        let bytes = (number as u64).checked_mul(4).ok_or(Memory)?;
-        start.checked_add(bytes).ok_or(Memory)
-    }
-
-    // How many instructions stand before a block.
-    fn before(&self, func: u32, block: u32) -> Result<usize, Memory>
-        ensures { IfOk result (λ count. count ≡ place_before self.now func block) }
+    /// The address of the instruction with this place in its block. It is below 2^64, since functions are small and few.
+    pub fn address(&self, func: u32, block: u32, place: usize) -> u64
+        requires { place ≤ length (insts_of self.now func block) }
+        ensures { result ≡ code_address self.now func block place }
     {
         match table_in(self.tables.as_slice(), func as usize) {
-            None => Err(Memory),
-            Some(table) => table.before(block),
+            None => 0,
+            Some(table) => {
+                let start = self.layouts.address(FuncId(func));
+                start + 4 * (table.ahead(block) + place) as u64
+            }
         }
     }
 }
@@ -187,15 +178,17 @@ impl<'m> Table<'m> {
         self.firsts.last().copied().unwrap_or(0)
     }
 
-    fn before(&self, block: u32) -> Result<usize, Memory>
-        ensures { IfOk result (λ count. slice_get self.now.befores block ≡ Some count) }
+    fn ahead(&self, block: u32) -> usize
+        ensures { result ≡ before_in self.now.befores block }
     {
-        self.befores.get(block as usize).copied().ok_or(Memory)
+        let all = self.befores.last().copied().unwrap_or(0);
+        self.befores.get(block as usize).copied().unwrap_or(all)
     }
 }
 
 fn tables_of(alloc: Global, funcs: &[Func]) -> Result<Vec<Table<'_>>, Memory>
-    ensures { IfOk result (λ tables. tables.items ≡ map (λ func. table_of func.content) funcs.now) }
+    ensures tables { IfOk result (λ tables. tables.items ≡ map (λ func. table_of func.content) funcs.now) }
+    ensures small { OnOk result (All (λ func. IsSmallFunction func.content) funcs.now) }
 {
     let mut tables = Vec::new(alloc);
     for func in funcs {
@@ -205,7 +198,8 @@ fn tables_of(alloc: Global, funcs: &[Func]) -> Result<Vec<Table<'_>>, Memory>
 }
 
 fn table_of(alloc: Global, func: &Func) -> Result<Table<'_>, Memory>
-    ensures { IfOk result (λ table. table ≡ table_of func.now.content) }
+    ensures table { IfOk result (λ table. table ≡ table_of func.now.content) }
+    ensures small { IsSmallFunction func.now.content }
 {
     let befores = befores_of(alloc, func.blocks())?;
     let firsts = registers_of(alloc, func)?;

@@ -1,6 +1,6 @@
 //! A frame: where it stands, and its registers.
 
-ghost use Rattle.std.specs.Prelude.{◌≡◌, ◌==◌, ◌≤◌, ◌-◌, ◌++◌, ℕ, true, List, drop, length, map, replicate, IfOk, OnOk};
+ghost use Rattle.std.specs.Prelude.{◌≡◌, ◌==◌, ◌≤◌, ◌<◌, ◌+◌, ◌-◌, ◌^◌, ◌++◌, ◌↔◌, ℕ, IsTrue, true, List, drop, length, map, replicate, IfOk, OnOk};
 ghost use Rattle.std.specs.Option.{option_map_or};
 ghost use Rattle.std.specs.List.{position};
 ghost use Rattle.ir_ast.specs.Objects.{number};
@@ -12,7 +12,7 @@ ghost use Rattle.move_plan.specs.declared.plan_lines.PlanLine.{PlanLine};
 ghost use Rattle.machine_meaning.specs.Code.{machinery_of};
 ghost use Rattle.machine_meaning.specs.Words.{worded_operand};
 ghost use Rattle.machine_meaning.specs.Machines.{behind, gone_from, gone_behind, regrouped_by, slot_put, return_address, address_behind};
-ghost use Rattle.machine_frames.specs.Frames.{lines_in, frame_of, entered_in, write_of};
+ghost use Rattle.machine_frames.specs.Frames.{lines_in, frame_of, entered_in, write_of, CanGoOn};
 ghost use Rattle.machine_frames.specs.Landings.{phis_of};
 ghost use Rattle.machine_lines.specs.Decoding.{decoded_of};
 ghost use Rattle.machine_lines.specs.Lines.{line_of, lines_left};
@@ -21,8 +21,8 @@ ghost use Rattle.ir_ast.specs.Ops.{is_statepoint};
 use crate::code::Code;
 use crate::copies::copy_all;
 use crate::landings::Landing;
-use crate::numbering::{following, member_count, register_of};
-use crate::slots::{is_statepoint, member_word};
+use crate::numbering::{following, member_count, next_behind, register_of};
+use crate::slots::member_word;
 use frame_walk::Stack;
 use ir_ast::{Inst, Op, Operand};
 use machine_lines::{Decoded, Lines, put, word, word_at};
@@ -92,13 +92,7 @@ impl<'m> Frame<'m> {
         ensures { OnOk result (frame_of self.new ≡ record (frame_of self.old) { rest = lines_left (following self.old.next inst.now) rest.entry.insts.now; registers = put (line_of self.old.next inst.now).to (number word) (frame_of self.old).registers }) }
     {
         let next = following(self.next, inst)?;
-        put(
-            self.registers.as_mut_slice(),
-            register_of(self.next, inst),
-            word,
-        );
-        self.rest = rest;
-        self.next = next;
+        self.pass_to(next, inst, rest, word);
         Ok(())
     }
 
@@ -112,52 +106,65 @@ impl<'m> Frame<'m> {
         Ok(())
     }
 
+    /// Whether it can go on behind the call at which it stands: the results that are left have registers below 2^64.
+    #[inline(always)]
+    pub fn can_go_on(&self) -> bool
+        ensures { IsTrue result ↔ CanGoOn self.now }
+    {
+        self.rest.insts.len() <= usize::MAX - self.next
+    }
+
     /// A frame that stands at a call goes on behind it with the answer, and its group with what its slots hold now.
-    pub fn go_on(&mut self, stack: &Stack, answer: u64) -> Result<(), Memory>
-        ensures { OnOk result (frame_of self.new ≡ gone_from stack.now (frame_of self.old) (frame_of self.old).rest (number answer)) }
+    pub fn go_on(&mut self, stack: &Stack, answer: u64)
+        requires { CanGoOn self.old }
+        ensures { frame_of self.new ≡ gone_from stack.now (frame_of self.old) (frame_of self.old).rest (number answer) }
     {
         match self.rest.front() {
-            None => Ok(()),
+            None => {}
             Some(parts) => self.go_behind(stack, parts.0, parts.2, answer),
         }
     }
 
     /// The same of a frame that stands at this call.
     #[inline(always)]
-    pub(crate) fn go_behind(
-        &mut self,
-        stack: &Stack,
-        inst: &Inst,
-        rest: Lines<'m>,
-        answer: u64,
-    ) -> Result<(), Memory>
-        ensures { OnOk result (frame_of self.new ≡ gone_behind stack.now (frame_of self.old) (line_of self.old.next inst.now) (lines_left (following self.old.next inst.now) rest.entry.insts.now) (number answer) inst.now.op) }
+    pub(crate) fn go_behind(&mut self, stack: &Stack, inst: &Inst, rest: Lines<'m>, answer: u64)
+        requires { self.old.next + 1 + length rest.insts.now < 2 ^ 64 }
+        ensures { frame_of self.new ≡ gone_behind stack.now (frame_of self.old) (line_of self.old.next inst.now) (lines_left (following self.old.next inst.now) rest.entry.insts.now) (number answer) inst.now.op }
     {
-        if is_statepoint(inst.op()) {
-            let next = following(self.next, inst)?;
+        let next = next_behind(self.next, inst);
+        if inst.op().is_statepoint() {
             self.regroup(stack, next, rest, answer)
         } else {
-            self.pass(inst, rest, answer)
+            self.pass_to(next, inst, rest, answer)
         }
+    }
+
+    // Goes on behind a line with this result, where the next one goes to this register.
+    #[inline(always)]
+    fn pass_to(&mut self, next: usize, inst: &Inst, rest: Lines<'m>, word: u64)
+        requires { next ≡ following self.old.next inst.now }
+        ensures { frame_of self.new ≡ record (frame_of self.old) { rest = lines_left (following self.old.next inst.now) rest.entry.insts.now; registers = put (line_of self.old.next inst.now).to (number word) (frame_of self.old).registers } }
+    {
+        put(
+            self.registers.as_mut_slice(),
+            register_of(self.next, inst),
+            word,
+        );
+        self.rest = rest;
+        self.next = next;
     }
 
     // Goes on behind the group of a statepoint, of which the first result goes to the register `first`.
     #[inline(always)]
-    fn regroup(
-        &mut self,
-        stack: &Stack,
-        first: usize,
-        rest: Lines<'m>,
-        answer: u64,
-    ) -> Result<(), Memory>
-        ensures { OnOk result (frame_of self.new ≡ regrouped_by stack.now (frame_of self.old) (lines_left first rest.entry.insts.now) (number answer)) }
+    fn regroup(&mut self, stack: &Stack, first: usize, rest: Lines<'m>, answer: u64)
+        requires { first + length rest.insts.now < 2 ^ 64 }
+        ensures { frame_of self.new ≡ regrouped_by stack.now (frame_of self.old) (lines_left first rest.entry.insts.now) (number answer) }
     {
         let count = member_count(rest.insts);
         let members = rest.front_of(count);
-        let next = put_members(self.registers.as_mut_slice(), stack, first, members, answer)?;
+        let next = put_members(self.registers.as_mut_slice(), stack, first, members, answer);
         self.rest = rest.behind(count);
         self.next = next;
-        Ok(())
     }
 
     /// Goes to another block, whose phis take effect together. `moves` is room for them.
@@ -187,18 +194,18 @@ impl<'m> Frame<'m> {
     }
 
     /// The return address of the call at which it stands, or 0.
-    pub fn return_address(&self, code: &Code) -> Result<u64, Memory>
-        ensures { IfOk result (λ address. (map : StackMap) → (plan : List PlanLine) → (bound : ℕ) → return_address (machinery_of code.now map plan bound) (frame_of self.now) ≡ address) }
+    pub fn return_address(&self, code: &Code) -> u64
+        ensures { (map : StackMap) → (plan : List PlanLine) → (bound : ℕ) → return_address (machinery_of code.now map plan bound) (frame_of self.now) ≡ result }
     {
         match self.rest.front() {
-            None => Ok(0),
+            None => 0,
             Some(parts) => self.address_behind(code, parts.0, parts.2.insts),
         }
     }
 
     /// The address behind a call, its group taken along.
-    pub fn address_behind(&self, code: &Code, inst: &Inst, rest: &[Inst]) -> Result<u64, Memory>
-        ensures { IfOk result (λ address. (map : StackMap) → (plan : List PlanLine) → (bound : ℕ) → address_behind (machinery_of code.now map plan bound) (frame_of self.now) (line_of self.now.next inst.now) (lines_left (following self.now.next inst.now) rest.now) ≡ address) }
+    pub fn address_behind(&self, code: &Code, inst: &Inst, rest: &[Inst]) -> u64
+        ensures { (map : StackMap) → (plan : List PlanLine) → (bound : ℕ) → address_behind (machinery_of code.now map plan bound) (frame_of self.now) (line_of self.now.next inst.now) (lines_left (following self.now.next inst.now) rest.now) ≡ result }
     {
         let insts = code.insts(self.func, self.block);
         let all = insts.len();
@@ -211,7 +218,7 @@ impl<'m> Frame<'m> {
 fn left_behind(op: &Op, rest: &[Inst]) -> usize
     ensures { (next : ℕ) → length (behind op.now (lines_left next rest.now)) ≡ result }
 {
-    if is_statepoint(op) {
+    if op.is_statepoint() {
         rest.len() - member_count(rest)
     } else {
         rest.len()
@@ -269,9 +276,10 @@ fn put_members(
     first: usize,
     members: Lines<'_>,
     answer: u64,
-) -> Result<usize, Memory>
-    ensures put { OnOk result (map number registers.new ≡ put_all (map (slot_put stack.now (number answer)) (lines_left first members.entry.insts.now)) (map number registers.old)) }
-    ensures next { IfOk result (λ next. next ≡ after_all first members.entry.insts.now) }
+) -> usize
+    requires { first + length members.insts.now < 2 ^ 64 }
+    ensures put { map number registers.new ≡ put_all (map (slot_put stack.now (number answer)) (lines_left first members.entry.insts.now)) (map number registers.old) }
+    ensures next { result ≡ after_all first members.entry.insts.now }
 {
     put_each(
         registers,
@@ -291,19 +299,19 @@ fn put_each(
     members: &[Inst],
     decoded: &[Decoded],
     answer: u64,
-) -> Result<usize, Memory>
-    requires { decoded.now ≡ map decoded_of members.now }
-    ensures put { OnOk result (map number registers.new ≡ put_all (map (slot_put stack.now (number answer)) (lines_left first members.now)) (map number registers.old)) }
-    ensures next { IfOk result (λ next. next ≡ after_all first members.now) }
+) -> usize
+    requires decoded { decoded.now ≡ map decoded_of members.now }
+    requires small { first + length members.now < 2 ^ 64 }
+    ensures put { map number registers.new ≡ put_all (map (slot_put stack.now (number answer)) (lines_left first members.now)) (map number registers.old) }
+    ensures next { result ≡ after_all first members.now }
 {
     let mut next = first;
     for (place, member) in members.iter().enumerate() {
-        let word = member_word(stack, member, &decoded[place], answer)?;
+        let word = member_word(stack, member, &decoded[place], answer);
         put(registers, register_of(next, member), word);
-        let after = following(next, member)?;
-        next = after;
+        next = next_behind(next, member);
     }
-    Ok(next)
+    next
 }
 
 // The phis of a block take effect together on the edge from another. `moves` is room for them.

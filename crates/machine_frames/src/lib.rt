@@ -11,5 +11,4 @@ mod tasks;
 
 pub use code::Code;
 pub use frames::{Frame, Move};
-pub use slots::is_statepoint;
 pub use tasks::Task;

@@ -1,13 +1,13 @@
 //! The registers of results, counted in text order, and what stands first in a list of lines.
 
-ghost use Rattle.std.specs.Prelude.{◌≡◌, ◌≤◌, [], ◌∷◌, length, IfOk, MatchOption};
+ghost use Rattle.std.specs.Prelude.{◌≡◌, ◌≤◌, ◌<◌, ◌+◌, ◌^◌, [], ◌∷◌, length, IfOk, MatchOption};
 ghost use Rattle.std.specs.List.{prefix_len};
 ghost use Rattle.ir_ast.specs.Faults.PhiEdges.{is_phi};
 ghost use Rattle.object_meaning.specs.Frames.{is_member};
 ghost use Rattle.object_meaning.specs.Lines.{numbered, following, after_all, registers_of};
 ghost use Rattle.machine_frames.specs.Tables.{befores_from};
 
-use ir_ast::{Block, Func, Inst, Op};
+use ir_ast::{Block, Func, Inst};
 use sp_ids::Memory;
 use std::alloc::Global;
 
@@ -20,6 +20,20 @@ pub(crate) fn following(next: usize, inst: &Inst) -> Result<usize, Memory>
         next.checked_add(1).ok_or(Memory)
     } else {
         Ok(next)
+    }
+}
+
+/// The same where that register is small enough.
+#[inline(always)]
+pub(crate) fn next_behind(next: usize, inst: &Inst) -> usize
+    requires { next + 1 < 2 ^ 64 }
+    ensures value { result ≡ following next inst.now }
+    ensures near { result ≤ next + 1 }
+{
+    if inst.result().is_some() {
+        next + 1
+    } else {
+        next
     }
 }
 
@@ -62,7 +76,7 @@ pub(crate) fn registers_of(alloc: Global, func: &Func) -> Result<Vec<usize>, Mem
     Ok(list)
 }
 
-/// How many instructions stand before each block.
+/// How many instructions stand before each block, and last how many there are.
 pub(crate) fn befores_of(alloc: Global, blocks: &[Block]) -> Result<Vec<usize>, Memory>
     ensures { IfOk result (λ list. list.items ≡ befores_from 0 blocks.now) }
 {
@@ -73,6 +87,7 @@ pub(crate) fn befores_of(alloc: Global, blocks: &[Block]) -> Result<Vec<usize>, 
         let more = count.checked_add(block.insts().len()).ok_or(Memory)?;
         count = more;
     }
+    list.push(count)?;
     Ok(list)
 }
 
@@ -83,18 +98,12 @@ pub(crate) fn phi_count(insts: &[Inst]) -> usize
 {
     let mut found = 0;
     for inst in insts {
-        if !is_phi(inst.op()) {
+        if !inst.op().is_phi() {
             return found;
         }
         found += 1;
     }
     found
-}
-
-fn is_phi(op: &Op) -> bool
-    ensures { result ≡ is_phi op.now }
-{
-    matches!(op, Op::Phi)
 }
 
 /// How many results and relocates stand first.
@@ -105,16 +114,10 @@ pub(crate) fn member_count(insts: &[Inst]) -> usize
 {
     let mut found = 0;
     for inst in insts {
-        if !is_member(inst.op()) {
+        if !inst.op().is_member() {
             return found;
         }
         found += 1;
     }
     found
-}
-
-fn is_member(op: &Op) -> bool
-    ensures { result ≡ is_member op.now }
-{
-    matches!(op, Op::GcResult | Op::GcRelocate)
 }

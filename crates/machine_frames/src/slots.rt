@@ -1,6 +1,6 @@
 //! Slots: what a statepoint keeps in its frame's words, and what the members of its group read there.
 
-ghost use Rattle.std.specs.Prelude.{◌≡◌, ℕ, List, [], ◌∷◌, length, map, drop, filter, ◌++◌, slice_index, OnOk, IfOk};
+ghost use Rattle.std.specs.Prelude.{◌≡◌, ℕ, List, [], ◌∷◌, length, map, drop, filter, ◌++◌, OnOk};
 ghost use Rattle.ir_ast.specs.Objects.{number};
 ghost use Rattle.frame_forms.specs.FrameSizes.{is_named_integer};
 ghost use Rattle.object_meaning.specs.Numbers.{width_of, sign_extended};
@@ -10,19 +10,11 @@ ghost use Rattle.machine_meaning.specs.Words.{worded_operand};
 ghost use Rattle.machine_frames.specs.Frames.{kept_in};
 ghost use Rattle.machine_lines.specs.Decoding.{decoded_of};
 ghost use Rattle.machine_lines.specs.Lines.{line_of};
-ghost use Rattle.ir_ast.specs.Ops.{is_statepoint};
 
 use frame_walk::Stack;
 use ir_ast::{Inst, Op, Operand, Ty};
 use machine_lines::{Decoded, widened, word};
 use sp_ids::Memory;
-
-/// Whether it is a statepoint.
-pub fn is_statepoint(op: &Op) -> bool
-    ensures { result ≡ is_statepoint op.now }
-{
-    matches!(op, Op::Statepoint { .. })
-}
 
 /// A statepoint with so many arguments writes what it keeps over the newest words of its stack: its live entries, then the
 /// integers that its bundle names, sign-extended.
@@ -104,30 +96,12 @@ fn behind(operands: &[Operand], count: usize) -> &[Operand]
 
 /// What a member of a group gets: a relocate the present word of its derived slot, a result the callee's answer.
 #[inline(always)]
-pub(crate) fn member_word(
-    stack: &Stack,
-    member: &Inst,
-    one: &Decoded,
-    answer: u64,
-) -> Result<u64, Memory>
+pub(crate) fn member_word(stack: &Stack, member: &Inst, one: &Decoded, answer: u64) -> u64
     requires { one.now ≡ decoded_of member.now }
-    ensures { IfOk result (λ word. slot_value stack.now (number answer) (line_of 0 member.now) member.now.op ≡ number word) }
+    ensures { slot_value stack.now (number answer) (line_of 0 member.now) member.now.op ≡ number result }
 {
     match member.op() {
-        Op::GcRelocate => slot(stack, one.index()),
-        _ => Ok(answer),
+        Op::GcRelocate => stack.word_or_zero(one.index()),
+        _ => answer,
     }
-}
-
-#[inline(always)]
-fn slot(stack: &Stack, index: u64) -> Result<u64, Memory>
-    ensures { IfOk result (λ word. word ≡ slice_index stack.now index) }
-{
-    if index >= stack.len() as u64 {
-        return Ok(0);
-    }
-    if index > u64::from(u32::MAX) {
-        return Err(Memory);
-    }
-    Ok(stack.word(index as u32))
 }

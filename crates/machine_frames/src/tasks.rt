@@ -1,6 +1,6 @@
 //! The frames of a task, and its stack.
 
-ghost use Rattle.std.specs.Prelude.{◌≡◌, ◌+◌, ◌++◌, ◌∷◌, [], drop, map, replicate, IfOk, OnOk, Ok, Err};
+ghost use Rattle.std.specs.Prelude.{◌≡◌, ◌+◌, ◌++◌, ◌∷◌, ◌↔◌, [], drop, map, replicate, IfOk, IsTrue, OnOk, Ok, Err};
 ghost use Rattle.ir_ast.specs.Objects.{number};
 ghost use Rattle.object_meaning.specs.Registers.{value};
 ghost use Rattle.machine_meaning.specs.Code.{words_in};
@@ -8,7 +8,7 @@ ghost use Rattle.machine_meaning.specs.Words.{worded_operand};
 ghost use Rattle.machine_meaning.specs.Machines.{gone_behind, gone_from, over};
 ghost use Rattle.machine_lines.specs.Lines.{line_of, lines_left};
 ghost use Rattle.object_meaning.specs.Lines.{following};
-ghost use Rattle.machine_frames.specs.Frames.{frame_of, entered_in, below_of, kept_in};
+ghost use Rattle.machine_frames.specs.Frames.{frame_of, entered_in, below_of, kept_in, CanGoOn};
 ghost use Rattle.machine_frames.specs.Tasks.{Begins, Enters, Leaves};
 
 use crate::code::Code;
@@ -103,13 +103,35 @@ impl<'m> Task<'m> {
         keep(&mut self.stack, registers, inst, arguments)
     }
 
+    /// Whether the frame that runs can go on behind the call at which it stands. It may be asked before an event.
+    #[inline(always)]
+    pub fn can_go_on(&self) -> bool
+        ensures { IsTrue result ↔ CanGoOn self.now.frame }
+    {
+        self.frame.can_go_on()
+    }
+
     /// The frame that runs and stands at a call goes on behind it with the answer.
+    #[inline(always)]
+    pub fn resume(&mut self, answer: u64)
+        requires { CanGoOn self.old.frame }
+        ensures frame { frame_of self.new.frame ≡ gone_from self.old.stack (frame_of self.old.frame) (frame_of self.old.frame).rest (number answer) }
+        ensures others { self.new ≡ record self.old { frame = self.new.frame } }
+    {
+        self.frame.go_on(&self.stack, answer)
+    }
+
+    /// The same of any frame.
     #[inline(always)]
     pub fn go_on(&mut self, answer: u64) -> Result<(), Memory>
         ensures frame { OnOk result (frame_of self.new.frame ≡ gone_from self.old.stack (frame_of self.old.frame) (frame_of self.old.frame).rest (number answer)) }
         ensures others { self.new ≡ record self.old { frame = self.new.frame } }
     {
-        self.frame.go_on(&self.stack, answer)
+        if !self.frame.can_go_on() {
+            return Err(Memory);
+        }
+        self.frame.go_on(&self.stack, answer);
+        Ok(())
     }
 
     /// The same of a frame that stands at this call.
@@ -118,7 +140,11 @@ impl<'m> Task<'m> {
         ensures frame { OnOk result (frame_of self.new.frame ≡ gone_behind self.old.stack (frame_of self.old.frame) (line_of self.old.frame.next inst.now) (lines_left (following self.old.frame.next inst.now) rest.entry.insts.now) (number answer) inst.now.op) }
         ensures others { self.new ≡ record self.old { frame = self.new.frame } }
     {
-        self.frame.go_behind(&self.stack, inst, rest, answer)
+        if rest.insts.len() >= usize::MAX - self.frame.next {
+            return Err(Memory);
+        }
+        self.frame.go_behind(&self.stack, inst, rest, answer);
+        Ok(())
     }
 
     /// The newest of the frames that wait runs again, and the running one is gone. Whether there was one.

@@ -1,7 +1,7 @@
 -- The cases of a `switch`.
-use Rattle.std.proofs.Common.{◌≡◌, ℕ, ◌+◌, Bool, cond, not, List, [], ◌∷◌, map, drop, refl, ap, ◌∙◌}
-use Rattle.std.specs.List.{prefix_len, position}
-use Rattle.std.proofs.lemmas.List.{length-map, drop-map}
+use Rattle.std.proofs.Common.{◌≡◌, ℕ, List, map, drop, ap, ◌∙◌}
+use Rattle.std.specs.List.{position}
+use Rattle.std.proofs.lemmas.List.{drop-map}
 use Rattle.ir_ast.specs.declared.ops.Operand.{Operand}
 use Rattle.object_meaning.specs.Jumps.{is_case}
 use Rattle.machine_meaning.specs.Words.{worded_operand}

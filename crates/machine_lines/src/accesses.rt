@@ -1,13 +1,12 @@
 //! What accesses name: words of `getelementptr`, kinds of cells, and the fields of layouts.
 
-ghost use Rattle.std.specs.Prelude.{◌≡◌, ◌%◌, ◌^◌};
-ghost use Rattle.ir_ast.specs.Sizes.{begins_at, fields_in};
+ghost use Rattle.std.specs.Prelude.{◌≡◌};
+ghost use Rattle.ir_ast.specs.Sizes.{fields_in};
 ghost use Rattle.object_meaning.specs.Accesses.{cell_named};
-ghost use Rattle.object_meaning.specs.Computing.{element_bytes, field_bytes};
 ghost use Rattle.object_meaning.specs.Numbers.{width_of};
 ghost use Rattle.machine_meaning.specs.MachineSteps.{stepped_word};
 
-use flat_code::width_of;
+use flat_code::{element_bytes, field_bytes, width_of};
 use ir_ast::{Cell, Elem, Layout, Ty};
 use sp_ids::sign;
 
@@ -33,38 +32,6 @@ pub fn stepped_word(
     let step = times.wrapping_mul(element_bytes(layouts, elem));
     let by = step.wrapping_add(field_bytes(layouts, elem, place));
     from.wrapping_add(by)
-}
-
-fn element_bytes(layouts: &[Layout], elem: Elem) -> u64
-    ensures { result ≡ element_bytes layouts.now elem % 2 ^ 64 }
-{
-    match elem {
-        Elem::Int(width) => u64::from(width / 8),
-        Elem::Ptr => 8,
-        Elem::Layout(layout) => (fields_of(layouts, layout).len() as u64).wrapping_mul(8),
-    }
-}
-
-fn field_bytes(layouts: &[Layout], elem: Elem, place: Option<u32>) -> u64
-    ensures { result ≡ field_bytes layouts.now elem place }
-{
-    match elem {
-        Elem::Layout(layout) => match place {
-            None => 0,
-            Some(place) => begins_at(fields_of(layouts, layout), place),
-        },
-        _ => 0,
-    }
-}
-
-fn begins_at(fields: &[Cell], place: u32) -> u64
-    ensures { result ≡ begins_at fields.now place }
-{
-    if (place as usize) < fields.len() {
-        8 * u64::from(place)
-    } else {
-        0
-    }
 }
 
 /// The fields of a layout, by its place.

@@ -11,6 +11,7 @@ mod words;
 pub use accesses::{cell_named, fields_of, stepped_word};
 pub use computing::{computed, is_plain, widened};
 pub use decoded::{Decoded, Lines, Source, decoded_all, incoming_source};
+pub use flat_code::label_at;
 pub use going::go_over;
-pub use targets::{branch_taken, case_taken, label_at};
+pub use targets::{branch_taken, case_taken};
 pub use words::{put, word, word_at};

@@ -3,27 +3,17 @@
 ghost use Rattle.std.specs.Prelude.{◌≡◌, ◌<◌, map, drop, length, IfSome};
 ghost use Rattle.std.specs.List.{position};
 ghost use Rattle.ir_ast.specs.Objects.{number};
-ghost use Rattle.object_meaning.specs.Jumps.{branch_taken, case_taken, is_case, label_at};
+ghost use Rattle.object_meaning.specs.Jumps.{branch_taken, case_taken, is_case};
 ghost use Rattle.machine_meaning.specs.Words.{worded_operand};
 
+use flat_code::cases_of;
 use ir_ast::Operand;
-use sp_ids::BlockId;
 
 /// Which label of a `br` with a condition is taken.
 pub fn branch_taken(word: u64) -> usize
     ensures { result ≡ branch_taken (number word) }
 {
     if word > 0 { 0 } else { 1 }
-}
-
-/// The block of a terminator's label at a place.
-pub fn label_at(labels: &[BlockId], place: usize) -> u32
-    ensures { result ≡ label_at labels.now place }
-{
-    match labels.get(place) {
-        None => 0,
-        Some(label) => label.0,
-    }
 }
 
 /// Which label of a `switch` is taken: the first equal case's, or the default's, which stands first.
@@ -33,15 +23,6 @@ pub fn case_taken(word: u64, operands: &[Operand]) -> usize
     match place_of(word, cases_of(operands)) {
         None => 0,
         Some(place) => place + 1,
-    }
-}
-
-fn cases_of(operands: &[Operand]) -> &[Operand]
-    ensures { result.now ≡ drop 1 operands.now }
-{
-    match operands {
-        [] => &[],
-        [_value, cases @ ..] => cases,
     }
 }
 

@@ -248,3 +248,11 @@ counted_none counts object place rising low high here =
         | inr ne ↦ (let less = rising place k d (let s : place < k = grind arith in s) l in let first = high place d (omega arith) (omega arith) in let no : ⊥ = omega arith in no)
       ])
     ]))))
+
+-- at most one count more
+kept-length : (counts : List Counted) (object count : ℕ) (b : Bool) → length (cond b (counts ++ record { object = object; count = count } ∷ []) counts) ≤ length counts + 1
+kept-length counts object count true = let e = length_push counts (let one : Counted = record { object = object; count = count } in one) in omega arith
+kept-length counts object count false = omega arith
+
+pub with_count-length : (counts : List Counted) (object count width : ℕ) → length (with_count counts object count width) ≤ length counts + 1
+with_count-length counts object count width = kept-length counts object count (eqb width 0)

@@ -1,5 +1,5 @@
 -- Footprints, where every cell has 8 bytes: of a new object, and of those that are there.
-use Rattle.std.proofs.Common.{◌≡◌, ℕ, zero, suc, ◌-◌, ◌*◌, ◌<◌, List, [], ◌∷◌, length, map, take, drop, get_or, max, refl, ap, ◌∙◌, arith}
+use Rattle.std.proofs.Common.{◌≡◌, ℕ, zero, suc, ◌+◌, ◌-◌, ◌*◌, ◌<◌, ◌≤◌, List, [], ◌∷◌, length, map, take, drop, get_or, max, refl, sym, ap, ◌∙◌, arith}
 use Rattle.std.specs.List.{sum_by}
 use Rattle.std.proofs.lemmas.List.{length-take-le, length-drop, get_or-map, length-set}
 use Rattle.std.proofs.lemmas.List.Sums.{sum_by-cons}
@@ -54,3 +54,24 @@ pub sizes_moved : (moves : List Moved) (contents : List Content) → sizes_of (m
 sizes_moved moves [] = refl
 sizes_moved moves (content ∷ contents) =
     rw (moved_count moves content.kinds content.words) (ap (λ (l : List ℕ). bytes_of content ∷ l) (sizes_moved moves contents))
+
+-- all cells, by the footprints of the objects that have them
+cells_within : (shapes : List Shape) → 8 * sum_by (λ shape. shape.cells) shapes ≤ sum_by (λ (n : ℕ). n) (map (λ (shape : Shape). max 8 (8 * shape.cells)) shapes)
+cells_within [] = omega arith
+cells_within (shape ∷ shapes) =
+    let sum = sum_by-cons (λ (s : Shape). s.cells) shape shapes in
+    let bytes = sum_by-cons (λ (n : ℕ). n) (max 8 (8 * shape.cells)) (map (λ (s : Shape). max 8 (8 * s.cells)) shapes) in
+    let rest = cells_within shapes in
+    let big : 8 * shape.cells ≤ max 8 (8 * shape.cells) = omega arith in omega arith
+
+sizes-sum : (contents : List Content) → sum_by (λ (n : ℕ). n) (sizes_of contents) ≡ sum_by bytes_of contents
+sizes-sum [] = refl
+sizes-sum (content ∷ contents) =
+    sum_by-cons (λ (n : ℕ). n) (bytes_of content) (sizes_of contents) ∙ ap (λ (n : ℕ). bytes_of content + n) (sizes-sum contents) ∙ sym (sum_by-cons bytes_of content contents)
+
+pub words_within : (shapes : List Shape) (kinds : List Cell) (words : List ℕ) → sum_by (λ shape. shape.cells) shapes ≡ length words
+    → 8 * length words ≤ sum_by bytes_of (contents_of shapes kinds words)
+words_within shapes kinds words whole =
+    let within = cells_within shapes in
+    let same = sym (ap (λ (l : List ℕ). sum_by (λ (n : ℕ). n) l) (contents_sizes shapes kinds words whole)) ∙ sizes-sum (contents_of shapes kinds words) in
+    omega arith

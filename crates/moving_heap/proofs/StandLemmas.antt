@@ -2,7 +2,10 @@
 use Rattle.std.proofs.Common.{◌≡◌, ℕ, zero, suc, ◌+◌, ◌<◌, inl, inr, List, [], ◌∷◌, ◌++◌, length, take, drop, get_or, set, refl, sym, ap, ◌∙◌, arith}
 use Rattle.std.proofs.lemmas.Bool.{cases_eq, eq-eqb, ne_eqb}
 use Rattle.std.proofs.lemmas.List.{drop_more, take_more, take_more_set, drop-set-lt, length-drop, append_assoc}
+use Rattle.std.specs.List.{sum_by}
+use Rattle.std.proofs.lemmas.List.Sums.{sum_by-cons}
 use Rattle.moving_heap.specs.declared.stands.Stand.{Stand}
+use Rattle.moving_heap.specs.Contents.{Content, bytes_of, sizes_of}
 use Rattle.moving_heap.specs.declared.stands.Moved.{Moved}
 use Rattle.moving_heap.specs.Settled.{numbered, sent_on, followed}
 use Rattle.list_laws.proofs.Numbers.{less}
@@ -55,6 +58,18 @@ numbered_sent n (move ∷ moves) (address ∷ addresses) (size ∷ sizes) same =
       | inr ne ↦ rw (ne_eqb move.old address ne)
           (ap (λ (l : List Stand). (let stand : Stand = record { number = suc n; size = size; address = address } in stand) ∷ l) (numbered_sent (suc n) (move ∷ moves) addresses sizes rest))
     ]
+
+-- the footprints of all objects
+pub numbered-sum : (n : ℕ) (addresses : List ℕ) (contents : List Content) → length contents ≡ length addresses
+    → sum_by (λ (s : Stand). s.size) (numbered n addresses (sizes_of contents)) ≡ sum_by bytes_of contents
+numbered-sum n [] [] same = refl
+numbered-sum n [] (content ∷ contents) same = absurd (omega arith)
+numbered-sum n (address ∷ addresses) [] same = absurd (omega arith)
+numbered-sum n (address ∷ addresses) (content ∷ contents) same =
+    let one : Stand = record { number = suc n; size = bytes_of content; address = address } in
+    sum_by-cons (λ (s : Stand). s.size) one (numbered (suc n) addresses (sizes_of contents))
+    ∙ ap (λ (m : ℕ). bytes_of content + m) (numbered-sum (suc n) addresses contents (same_rest (length contents) (length addresses) same))
+    ∙ sym (sum_by-cons bytes_of content contents)
 
 -- ---- addresses followed by their moves
 

@@ -15,10 +15,10 @@ use Rattle.moving_heap.proofs.PlaceLemmas.{settled_added}
 use Rattle.moving_heap.proofs.RowLemmas.{ranked_added}
 use Rattle.moving_heap.proofs.GroupLemmas.{no_moves}
 
-abbrev sizes : List Stand → ℕ
+abbrev pub sizes : List Stand → ℕ
 sizes stands = sum_by (λ stand. stand.size) stands
 
-carried-sum : (moves : List Moved) (stands : List Stand) → sizes (map (carried moves) stands) ≡ sizes stands
+pub carried-sum : (moves : List Moved) (stands : List Stand) → sizes (map (carried moves) stands) ≡ sizes stands
 carried-sum moves [] = refl
 carried-sum moves (stand ∷ stands) =
     sum_by-cons (λ (s : Stand). s.size) (carried moves stand) (map (carried moves) stands) ∙ ap (λ n. stand.size + n) (carried-sum moves stands) ∙ sym (sum_by-cons (λ (s : Stand). s.size) stand stands)

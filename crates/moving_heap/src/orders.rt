@@ -46,13 +46,6 @@ impl Order {
         }
     }
 
-    /// How many there are.
-    pub(crate) fn len(&self) -> usize
-        ensures { result ≡ length self.now.low + length self.now.high }
-    {
-        self.places.len()
-    }
-
     // Those that never moved, and the others.
     fn parts(&self) -> (&[u32], &[u32])
         ensures low { result.0.now ≡ self.now.low }

@@ -60,18 +60,18 @@ impl<'a> Model for Stands<'a> {
 
     ghost Value = { List Stand };
 
-    ghost view = { λ stands. numbered 0 stands.addresses.now (sizes_of stands.cells.now) };
+    ghost view = { λ stands. numbered 0 stands.addresses.now (sizes_of stands.cells.now.contents) };
 
-    ghost invariant = { λ stands. (length stands.cells.now ≡ length stands.addresses.now) × AreSettled (numbered 0 stands.addresses.now (sizes_of stands.cells.now)) };
+    ghost invariant = { λ stands. (length stands.cells.now.contents ≡ length stands.addresses.now) × AreSettled (numbered 0 stands.addresses.now (sizes_of stands.cells.now.contents)) };
 }
 
 impl<'a> Stands<'a> {
     /// The objects that have these addresses and cells.
     #[inline(always)]
     pub(crate) fn of(addresses: &'a [u64], cells: &'a Cells) -> Stands<'a>
-        requires same { length cells.now ≡ length addresses.now }
-        requires settled { AreSettled (numbered 0 addresses.now (sizes_of cells.now)) }
-        ensures { result ≡ numbered 0 addresses.now (sizes_of cells.now) }
+        requires same { length cells.now.contents ≡ length addresses.now }
+        requires settled { AreSettled (numbered 0 addresses.now (sizes_of cells.now.contents)) }
+        ensures { result ≡ numbered 0 addresses.now (sizes_of cells.now.contents) }
     {
         Stands { addresses, cells }
     }

@@ -4,7 +4,6 @@ use Rattle.std.specs.Prelude.{slice_get}
 use Rattle.std.specs.List.{AllZip}
 use Rattle.std.specs.Option.{option_map_or}
 use Rattle.ir_ast.specs.Funcs.{Function}
-use Rattle.ir_ast.specs.Modules.{ModuleContent}
 use Rattle.ir_cfg.specs.Unreached.{DropsUnreached}
 use Rattle.base_forms.specs.Based.{base_table, based}
 use Rattle.base_forms.specs.Polls.{placed}

@@ -1,14 +1,11 @@
 -- The run of a source module is that of its rewritten module on the machine.
-use Rattle.std.proofs.Common.{◌≡◌, ℕ, ℤ, List, [], ◌∷◌, ◌++◌, reverse, refl, sym, ap, ◌∙◌, append_assoc}
-use Rattle.std.proofs.lemmas.List.{append-nil, reverse-append}
+use Rattle.std.proofs.Common.{◌≡◌, ℕ, List, ◌++◌, reverse, refl, sym, ap, ◌∙◌, append_assoc}
 use Rattle.std.proofs.lemmas.List.Folds.{concat-append}
 use Rattle.std.specs.List.{concat}
 use Rattle.ir_ast.specs.Modules.{ModuleContent}
 use Rattle.ir_cfg.specs.SourceModules.{IsSourceModule}
 use Rattle.move_plan.specs.Plans.{go}
-use Rattle.move_plan.specs.declared.plan_lines.PlanLine.{PlanLine}
 use Rattle.object_meaning.specs.Effects.{text_of}
-use Rattle.object_meaning.specs.Outcomes.{whole_text}
 use Rattle.stackmap_write.specs.ModuleMaps.{map_of}
 use Rattle.machine_meaning.specs.Code.{machinery_of}
 use Rattle.machine_meaning.specs.MachineRuns.{MachineOutcome}
@@ -33,7 +30,7 @@ sound_after content after source is = record {
 }
 
 pub sources_run_on_machine : SourcesRunOnMachine
-sources_run_on_machine content reached source bare drops input plan bound outcome gives =
+sources_run_on_machine content reached source drops input plan bound outcome gives =
     let after : ModuleContent = rewritten_source reached in
     let is : IsRewritten content after = record { reached = reached; drops = drops; rest = refl } in
     let sound = sound_after content after source is in
@@ -76,7 +73,7 @@ more_text : (printed last closing : List (List ℕ)) (more : PrintsMore printed 
 more_text printed last closing more = ap (λ (text : List ℕ). text ++ concat closing) more.text ∙ append_assoc (text_of printed) more.more (concat closing)
 
 pub fronts_are_source : FrontsAreSource
-fronts_are_source content after source bare is input plan bound now reached =
+fronts_are_source content after source is input plan bound now reached =
     let machinery : Machinery = machinery_of after (map_of after) plan bound in
     let ended = each_run_ends machinery input in
     let machine : MachineOutcome = ended.outcome in

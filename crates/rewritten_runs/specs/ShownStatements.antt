@@ -1,8 +1,6 @@
 -- What is proved of shown runs.
 use Rattle.std.specs.Prelude.{◌≡◌, ℕ, ℤ, Bool, List, length, slice_get, Some}
-use Rattle.std.specs.List.{All}
 use Rattle.sp_ids.specs.declared.ends.End.TheVariants.{LostFrame}
-use Rattle.ir_ast.specs.Bundles.{HasNoBundle}
 use Rattle.ir_ast.specs.Modules.{ModuleContent}
 use Rattle.ir_ast.specs.Objects.{Object}
 use Rattle.move_plan.specs.declared.plan_lines.PlanLine.{PlanLine}
@@ -15,7 +13,7 @@ use Rattle.stackmap_write.specs.ModuleMaps.{map_of}
 use Rattle.moves_unseen.specs.Statements.{IsSeen}
 use Rattle.moves_unseen.specs.Waits.{IsSound}
 use Rattle.sp_rewrite.specs.Statements.{IsRewritten}
-use Rattle.run_texts.specs.RunTexts.{RunWrites, RunWritesQuiet}
+use Rattle.run_texts.specs.RunTexts.{RunWrites}
 use Rattle.rewritten_runs.specs.ShownTexts.{IsShownText}
 
 -- the machine's run gives what the meaning on objects does, as far as a text shows it, and loses no frame
@@ -32,15 +30,10 @@ pub record IsAlike (content : ModuleContent) (meant : Outcome) (machine : Machin
       → (held.layout ≡ object.layout) × (held.count ≡ object.count)
   pub way : machine.end ≡ LostFrame → ⊥
 
--- over the stack map of a module without bundles no waiting frame shows anything, so a text without what they show is the whole
-abbrev pub QuietIsWhole : Type 0
-QuietIsWhole = (content : ModuleContent) → All HasNoBundle content.funcs → (input : List ℤ) (plan : List PlanLine) (bound : ℕ) (places trace : Bool) (machine : MachineOutcome) (text : List ℕ)
-    → RunWritesQuiet content (map_of content) input plan bound places trace machine text → RunWrites content (map_of content) input plan bound places trace machine text
-
--- the text of the machine's run of a verified module without bundles over its own stack map, by what the target meaning gives
+-- the text of the machine's run of a verified module over its own stack map, by what the target meaning gives
 abbrev pub VerifiedAreShown : Type 0
-VerifiedAreShown = (content : ModuleContent) → IsSound content → All HasNoBundle content.funcs → (input : List ℤ) (plan : List PlanLine) (bound : ℕ) (places trace : Bool) (meant : Outcome) (machine : MachineOutcome) (text : List ℕ)
-    → RunWritesQuiet content (map_of content) input plan bound places trace machine text → IsSeen content meant machine → IsShownText content plan places trace meant text
+VerifiedAreShown = (content : ModuleContent) → IsSound content → (input : List ℤ) (plan : List PlanLine) (bound : ℕ) (places trace : Bool) (meant : Outcome) (machine : MachineOutcome) (text : List ℕ)
+    → RunWrites content (map_of content) input plan bound places trace machine text → IsSeen content meant machine → IsShownText content plan places trace meant text
 
 -- a text of a run of the rewritten module is one of its source
 abbrev pub SourcesAreShown : Type 0

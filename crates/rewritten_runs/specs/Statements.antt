@@ -1,8 +1,6 @@
 -- What is proved of runs of rewritten modules.
 use Rattle.std.specs.Prelude.{◌≡◌, ℕ, ℤ, List, Option}
-use Rattle.std.specs.List.{All}
 use Rattle.sp_ids.specs.declared.ends.End.{End}
-use Rattle.ir_ast.specs.Bundles.{HasNoBundle}
 use Rattle.ir_ast.specs.Modules.{ModuleContent}
 use Rattle.ir_cfg.specs.SourceModules.{IsSourceModule}
 use Rattle.ir_cfg.specs.Unreached.{ModuleDropsUnreached}
@@ -23,7 +21,7 @@ use Rattle.rewritten_runs.specs.Runs.{IsRunOnMachine, IsSourceFront, IsSourceRun
 
 -- whatever a source module's run gives, its rewritten module's run on the machine gives
 abbrev pub SourcesRunOnMachine : Type 0
-SourcesRunOnMachine = (content reached : ModuleContent) → IsSourceModule content → All HasNoBundle content.funcs → ModuleDropsUnreached content reached
+SourcesRunOnMachine = (content reached : ModuleContent) → IsSourceModule content → ModuleDropsUnreached content reached
     → (input : List ℤ) (plan : List PlanLine) (bound : ℕ) (outcome : Outcome) → SourceGives content input (go plan) bound outcome → IsRunOnMachine content input plan bound outcome
 
 -- and the other way round, as a run of the rewritten module answers
@@ -34,7 +32,7 @@ SeenRunsAreSource = (content after : ModuleContent) → IsSourceModule content �
 
 -- and what it has printed by some state
 abbrev pub FrontsAreSource : Type 0
-FrontsAreSource = (content after : ModuleContent) → IsSourceModule content → All HasNoBundle content.funcs → IsRewritten content after
+FrontsAreSource = (content after : ModuleContent) → IsSourceModule content → IsRewritten content after
     → (input : List ℤ) (plan : List PlanLine) (bound : ℕ) (now : Progress Machine)
     → Reaches {E = End} (machine_proceeds (machinery_of after (map_of after) plan bound)) (machine_opening (machinery_of after (map_of after) plan bound) input) now
     → IsSourceFront content input (go plan) bound now.lines

@@ -1,13 +1,8 @@
 //! Laws of runs that show their trace and the places of their objects, in words of the meaning on objects alone. No code.
-ghost use Rattle.rewritten_runs.specs.ShownStatements.{QuietIsWhole, SourcesAreShown, VerifiedAreShown};
-
-/// Over a module's own stack map no waiting frame shows anything: the text without what they show is the whole text of the run.
-pub fn quiet_is_whole()
-    ensures { QuietIsWhole }
-{}
+ghost use Rattle.rewritten_runs.specs.ShownStatements.{SourcesAreShown, VerifiedAreShown};
 
 /// The text of the machine's run of a verified module over its own stack map shows what the target meaning says: without the lines of
-/// the trace what the program prints, then the line that closes the run, then the places that events, objects and the plan make.
+/// the trace what the program prints and its waiting frames show, then the line that closes the run, then the places that events, objects and the plan make.
 pub fn verified_are_shown()
     ensures { VerifiedAreShown }
 {}

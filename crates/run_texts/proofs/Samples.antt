@@ -30,7 +30,6 @@ use Rattle.object_meaning.specs.Steps.{step}
 use Rattle.machine_meaning.specs.Code.{machinery_of}
 use Rattle.machine_meaning.specs.Machines.{Machine}
 use Rattle.machine_meaning.specs.MachineSteps.{machine_step}
-use Rattle.machine_meaning.specs.TrapLines.{closing_of}
 use Rattle.machine_meaning.specs.MachineRuns.{MachineOutcome, machine_opening, machine_outcome, machine_proceeds}
 use Rattle.tool_report.specs.RunLines.{event_line, moved_line, place_line, slot_line}
 use Rattle.run_texts.specs.RunTexts.{RunWrites, run_lines}
@@ -45,7 +44,7 @@ module _ (content : ModuleContent) (map : StackMap) (input : List ℤ) (plan : L
   -- the text, if the run has come to its end
   abbrev found : Next End (Progress Machine) → Option (List ℕ)
   found (Go progress) = None
-  found (Over end last) = Some (concat (run_lines content (machinery_of content map plan bound) places trace input within (closing_of (machinery_of content map plan bound) end last.state) end last.state))
+  found (Over end last) = Some (concat (run_lines content (machinery_of content map plan bound) places trace input within end last.state))
 
   writes_found : (next : Next End (Progress Machine)) → goes (machine_proceeds (machinery_of content map plan bound)) within (Go (machine_opening (machinery_of content map plan bound) input)) ≡ next
       → found next ≡ Some text → Written content map input plan bound places trace text

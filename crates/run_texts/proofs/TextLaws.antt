@@ -17,8 +17,8 @@ use Rattle.machine_meaning.specs.MachineRuns.{MachineOutcome, machine_opening, m
 use Rattle.machine_meaning.specs.MachineSteps.{machine_step}
 use Rattle.machine_meaning.specs.TrapLines.{closing_of}
 use Rattle.tool_report.specs.Closings.{closing_line}
-use Rattle.run_texts.specs.RunTexts.{RunWritesWith, end_lines, lines_from, no_frames, printed_by, step_lines}
-use Rattle.run_texts.specs.Statements.{BareTexts, OneText, QuietTexts, WrittenFirst}
+use Rattle.run_texts.specs.RunTexts.{last_lines, lines_from, printed_by, step_lines}
+use Rattle.run_texts.specs.Statements.{BareTexts, OneText, WrittenFirst}
 use Rattle.object_meaning.proofs.OutcomeLaws.{concat-reverse}
 
 -- ---- what the first steps do
@@ -52,7 +52,7 @@ traced_front did step (suc count) (suc more) next end last is =
 -- ---- one text
 
 pub one_text : OneText
-one_text shown content map input plan bound places trace one other text other_text first second =
+one_text content map input plan bound places trace one other text other_text first second =
     let machinery = machinery_of content map plan bound in
     let start = machine_opening machinery input in
     let same = one_end (machine_proceeds machinery) start one.end other.end first.gives.last second.gives.last first.gives.run second.gives.run in
@@ -60,9 +60,9 @@ one_text shown content map input plan bound places trace one other text other_te
     one.end other.end first.gives.last second.gives.last first.gives.run.by second.gives.run.by in
     let before = lines_from machinery trace second.gives.run.within (Go start) in
     first.is
-    ∙ ap (λ lines. concat (lines ++ (shown machinery one.end first.gives.last.state ++ end_lines content places one.end first.gives.last.state))) steps
-    ∙ ap (λ (end : End). concat (before ++ (shown machinery end first.gives.last.state ++ end_lines content places end first.gives.last.state))) same.end
-    ∙ ap (λ (last : Progress Machine). concat (before ++ (shown machinery other.end last.state ++ end_lines content places other.end last.state))) same.last
+    ∙ ap (λ lines. concat (lines ++ last_lines content machinery places one.end first.gives.last.state)) steps
+    ∙ ap (λ (end : End). concat (before ++ last_lines content machinery places end first.gives.last.state)) same.end
+    ∙ ap (λ (last : Progress Machine). concat (before ++ last_lines content machinery places other.end last.state)) same.last
     ∙ sym second.is
 
 -- ---- without places and trace
@@ -104,43 +104,25 @@ bare_same steps shown lines line is =
     ∙ sym (append_assoc (concat (reverse lines)) (concat shown) line)
     ∙ ap (λ text. text ++ line) (sym (concat-append (reverse lines) shown))
 
-module _ (shown : Machinery → End → Machine → List (List ℕ)) (content : ModuleContent) (map : StackMap) (input : List ℤ) (plan : List PlanLine) (bound : ℕ)
-    (outcome : MachineOutcome) (text : List ℕ) (writes : RunWritesWith shown content map input plan bound false false outcome text) where
-  abbrev machinery : Machinery
-  machinery = machinery_of content map plan bound
-
-  abbrev last : Progress Machine
-  last = writes.gives.last
-
-  bare_text : text ≡ concat (reverse last.lines ++ shown machinery outcome.end last.state)
-      ++ closing_line outcome.end (function_name content last.state.state.running.func) last.state.state.steps last.state.state.events
-  bare_text =
-      writes.is
-      ∙ bare_same (lines_from machinery false writes.gives.run.within (Go (machine_opening machinery input))) (shown machinery outcome.end last.state) last.lines
-      (closing_line outcome.end (function_name content last.state.state.running.func) last.state.state.steps last.state.state.events)
-      (prints_from machinery writes.gives.run.within (machine_opening machinery input) outcome.end last writes.gives.run.by)
-
 pub bare_texts : BareTexts
 bare_texts content map input plan bound outcome text writes =
-    bare_text closing_of content map input plan bound outcome text writes
+    let machinery = machinery_of content map plan bound in
+    let last = writes.gives.last in
+    writes.is
+    ∙ bare_same (lines_from machinery false writes.gives.run.within (Go (machine_opening machinery input))) (closing_of machinery outcome.end last.state) last.lines
+    (closing_line outcome.end (function_name content last.state.state.running.func) last.state.state.steps last.state.state.events)
+    (prints_from machinery writes.gives.run.within (machine_opening machinery input) outcome.end last writes.gives.run.by)
     ∙ ap (λ (o : MachineOutcome). concat o.lines ++ closing_line o.end (function_name content o.func) o.steps o.events) (sym writes.gives.is)
-
-pub quiet_texts : QuietTexts
-quiet_texts content map input plan bound outcome text writes =
-    let lines = writes.gives.last.lines in
-    bare_text no_frames content map input plan bound outcome text writes
-    ∙ ap (λ (o : MachineOutcome). concat (reverse lines ++ []) ++ closing_line o.end (function_name content o.func) o.steps o.events) (sym writes.gives.is)
-    ∙ ap (λ (front : List ℕ). front ++ closing_line outcome.end (function_name content outcome.func) outcome.steps outcome.events) (ap concat (append-nil (reverse lines)) ∙ concat-reverse lines)
 
 -- ---- what was written stands first
 
 pub written_first : WrittenFirst
-written_first shown content map input plan bound places trace outcome text writes steps =
+written_first content map input plan bound places trace outcome text writes steps =
     let machinery = machinery_of content map plan bound in
     let start = Go (machine_opening machinery input) in
     let did : Progress Machine → List (List ℕ) = λ progress. step_lines machinery trace progress.state in
     let front = traced_front did (machine_proceeds machinery) steps writes.gives.run.within start outcome.end writes.gives.last writes.gives.run.by in
-    let behind = shown machinery outcome.end writes.gives.last.state ++ end_lines content places outcome.end writes.gives.last.state in
+    let behind = last_lines content machinery places outcome.end writes.gives.last.state in
     let first = lines_from machinery trace steps start in
     record {
       more = concat (front.rest ++ behind);

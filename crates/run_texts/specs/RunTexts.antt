@@ -79,24 +79,22 @@ end_lines content places end last =
 
 -- ---- the whole
 
--- the lines of a run that has come to this end within so many steps, at which waiting frames show these
-abbrev pub run_lines : ModuleContent → Machinery → (places trace : Bool) → List ℤ → ℕ → (shown : List (List ℕ)) → End → Machine → List (List ℕ)
-run_lines content machinery places trace input within shown end last =
-    lines_from machinery trace within (Go (machine_opening machinery input)) ++ (shown ++ end_lines content places end last)
+-- what is written behind the last step: what waiting frames show at a trap, then the closing line and the places
+abbrev pub last_lines : ModuleContent → Machinery → Bool → End → Machine → List (List ℕ)
+last_lines content machinery places end last = closing_of machinery end last ++ end_lines content places end last
+
+-- the lines of a run from a state on that has come to this end within so many steps
+abbrev pub lines_to_end : ModuleContent → Machinery → (places trace : Bool) → ℕ → Progress Machine → End → Machine → List (List ℕ)
+lines_to_end content machinery places trace within start end last =
+    lines_from machinery trace within (Go start) ++ last_lines content machinery places end last
+
+-- and of a run over this input
+abbrev pub run_lines : ModuleContent → Machinery → (places trace : Bool) → List ℤ → ℕ → End → Machine → List (List ℕ)
+run_lines content machinery places trace input within end last =
+    lines_to_end content machinery places trace within (machine_opening machinery input) end last
 
 -- the machine's run of a rewritten module over a stack map, an input and a plan, which gives this outcome, writes this text, with
--- places and trace or without; `shown` is what waiting frames show at the end
-pub record RunWritesWith (shown : Machinery → End → Machine → List (List ℕ)) (content : ModuleContent) (map : StackMap) (input : List ℤ) (plan : List PlanLine) (bound : ℕ) (places trace : Bool) (outcome : MachineOutcome) (text : List ℕ) : Type 0 where
+-- places and trace or without
+pub record RunWrites (content : ModuleContent) (map : StackMap) (input : List ℤ) (plan : List PlanLine) (bound : ℕ) (places trace : Bool) (outcome : MachineOutcome) (text : List ℕ) : Type 0 where
   pub gives : MachineGives content map input plan bound outcome
-  pub is : text ≡ concat (run_lines content (machinery_of content map plan bound) places trace input gives.run.within
-      (shown (machinery_of content map plan bound) outcome.end gives.last.state) outcome.end gives.last.state)
-
-abbrev pub RunWrites : ModuleContent → StackMap → List ℤ → List PlanLine → ℕ → (places trace : Bool) → MachineOutcome → List ℕ → Type 0
-RunWrites = RunWritesWith closing_of
-
-abbrev pub no_frames : Machinery → End → Machine → List (List ℕ)
-no_frames machinery end last = []
-
--- the same without what waiting frames show
-abbrev pub RunWritesQuiet : ModuleContent → StackMap → List ℤ → List PlanLine → ℕ → (places trace : Bool) → MachineOutcome → List ℕ → Type 0
-RunWritesQuiet = RunWritesWith no_frames
+  pub is : text ≡ concat (run_lines content (machinery_of content map plan bound) places trace input gives.run.within outcome.end gives.last.state)

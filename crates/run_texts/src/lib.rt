@@ -1,7 +1,7 @@
 //! The text of a run of the address machine, with its trace, its closing line and the places of its objects. No code.
 #![tactic(auto)]
 
-ghost use Rattle.run_texts.specs.Statements.{BareTexts, OneText, QuietTexts, WrittenFirst};
+ghost use Rattle.run_texts.specs.Statements.{BareTexts, OneText, WrittenFirst};
 
 /// A run has one text.
 pub fn one_text()
@@ -11,11 +11,6 @@ pub fn one_text()
 /// Without places and trace it is what the run prints, what waiting frames show, and the closing line.
 pub fn bare_texts()
     ensures { BareTexts }
-{}
-
-/// And without what waiting frames show it is what the run prints and the closing line.
-pub fn quiet_texts()
-    ensures { QuietTexts }
 {}
 
 /// What the first steps of a run write stands first in its text.

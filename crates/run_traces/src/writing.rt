@@ -77,12 +77,23 @@ fn write_slots<O: Sink>(slots: &[SlotChange], out: &mut O) -> Result<(), Failed>
     Ok(())
 }
 
-/// Why places are not written to their end.
+/// Why lines are not written to their end.
 #[derive(Clone, Copy, Debug, PartialEq, Eq)]
 pub enum Stopped {
     Memory,
     /// The sink counted a fault.
     Write,
+}
+
+impl From<Memory> for Stopped {
+    ghost use Rattle.std.specs.Prelude.{◌≡◌};
+    ghost use Rattle.run_traces.specs.declared.writing.Stopped.TheVariants as stops;
+
+    ghost from_gives = { λ _ e. e ≡ stops.Memory };
+
+    fn from(_error: Memory) -> Stopped {
+        Stopped::Memory
+    }
 }
 
 impl From<Failed> for Stopped {

@@ -5,3 +5,4 @@ pub mod WalkLaws
 pub mod ViewLaws
 pub mod LookLaws
 pub mod IndexLaws
+mod Samples

@@ -27,7 +27,7 @@ impl<'a> Model for MapIndex<'a> {
 }
 
 impl<'a> MapIndex<'a> {
-    ghost use Rattle.std.specs.Prelude.{◌≡◌, IfOk, length, option_map, slice_index};
+    ghost use Rattle.std.specs.Prelude.{◌≡◌, IfOk, IfSome, length, option_map, slice_index};
     ghost use Rattle.std.specs.List.Sorted.{IsPermutation};
     ghost use Rattle.std.specs.List.{AllAdjacentBelow};
     ghost use Rattle.map_bytes.specs.Entries.{entry_at};
@@ -48,9 +48,13 @@ impl<'a> MapIndex<'a> {
 
     /// The first record of the map with this return address, if there is one. It searches by halves.
     pub fn find(&self, return_address: u64) -> Option<RecordRef<'a>>
-        ensures { option_map seen result ≡ entry_at self.now.whole return_address }
+        ensures found { option_map seen result ≡ entry_at self.now.whole return_address }
+        ensures map { IfSome result (λ one. stack_map one.view ≡ self.now.whole) }
     {
-        search(&self.list, return_address)
+        match search(&self.list, return_address) {
+            None => None,
+            Some(one) => Some(one.found_in(self.view)),
+        }
     }
 
     /// The number with this place in the map's list of constants, or 0 where the list is shorter.

@@ -5,12 +5,15 @@ ghost use Rattle.map_bytes.specs.Maps.{record_bytes};
 ghost use Rattle.map_bytes.specs.Reads.{function_read, place_read, padding_size, places_count, places_end, record_read, size_read};
 
 use crate::owners::Owner;
+use crate::view::MapView;
 use byteorder::{ByteOrder, LittleEndian};
 use map_bytes::{FuncEntry, Place};
 
-/// A record of a stack map: what is known of a call's frame while the call runs. It is lent: its bytes are those of the input.
+/// A record of a stack map: what is known of a call's frame while the call runs. It is lent: its bytes are those of the input. A
+/// record that a map was asked for knows its map, of whose list of constants its locations speak.
 #[derive(Clone, Copy, Debug)]
 pub struct RecordRef<'a> {
+    view: MapView<'a>,
     bytes: &'a [u8],
     return_address: u64,
     frame_bytes: u64,
@@ -22,20 +25,43 @@ impl<'a> RecordRef<'a> {
     ghost use Rattle.map_bytes.specs.Entries.{entry_of};
     ghost use Rattle.stackmap_view.specs.Owners.{owner_entry};
     ghost use Rattle.stackmap_view.specs.Views.{seen};
+    ghost use Rattle.stackmap_view.specs.Maps.{stack_map};
 
     // The record that these bytes are, of this function.
     #[tactic(auto, unfolding(map_bytes::specs::Reads::record_read))]
-    pub(crate) fn of(owner: &Owner<'a>, bytes: &'a [u8]) -> RecordRef<'a>
+    pub(crate) fn of(view: MapView<'a>, owner: &Owner<'a>, bytes: &'a [u8]) -> RecordRef<'a>
         requires spelled { bytes.now ≡ record_bytes (record_read bytes.now) }
         ensures { seen result ≡ entry_of (owner_entry owner.now) (record_read bytes.now) }
     {
         let (_id, behind_id) = bytes.split_at(8);
         let offset = LittleEndian::read_u32(behind_id);
         RecordRef {
+            view,
             bytes,
             return_address: owner.address.wrapping_add(u64::from(offset)),
             frame_bytes: owner.frame_bytes,
         }
+    }
+
+    // The same record, found in this map.
+    pub(crate) fn found_in(self, view: MapView<'a>) -> RecordRef<'a>
+        ensures same { seen result ≡ seen self.entry }
+        ensures map { stack_map result.view ≡ stack_map view.entry }
+    {
+        RecordRef {
+            view,
+            bytes: self.bytes,
+            return_address: self.return_address,
+            frame_bytes: self.frame_bytes,
+        }
+    }
+
+    /// A number of its map's list of constants, by its place from 0.
+    pub fn constant(&self, index: u32) -> u64
+        requires { index < length (stack_map self.now.view).constants }
+        ensures { slice_get (stack_map self.now.view).constants index ≡ Some result }
+    {
+        self.view.constant(index)
     }
 
     /// The number that the statepoint carries.

@@ -25,7 +25,7 @@ pub struct MapView<'a> {
 }
 
 impl<'a> MapView<'a> {
-    ghost use Rattle.std.specs.Prelude.{◌<◌, ◌==◌, IfOk, IfErr, IsOk, Some, option_map, slice_get};
+    ghost use Rattle.std.specs.Prelude.{◌<◌, ◌==◌, IfOk, IfErr, IfSome, IsOk, Some, option_map, slice_get};
     ghost use Rattle.std.specs.List.{find};
     ghost use Rattle.map_bytes.specs.Maps.{StackMap, IsMapOf};
     ghost use Rattle.map_bytes.specs.Faults.{IsFirstFault};
@@ -98,6 +98,7 @@ impl<'a> MapView<'a> {
         let records_at = constants_at + 8 * LittleEndian::read_u32(constants) as usize;
         let (_all_before, records) = bytes.split_at(records_at);
         Records {
+            view: *self,
             owner: Owner::before(functions, function_count),
             records,
             count: LittleEndian::read_u32(count),
@@ -107,22 +108,27 @@ impl<'a> MapView<'a> {
     /// A record by its number from 0, if there is one. It goes over the records before it: whoever goes over all takes
     /// `records`.
     pub fn entry(&self, index: u32) -> Option<RecordRef<'a>>
-        ensures { option_map seen result ≡ slice_get (entries (stack_map self.now)) index }
+        ensures found { option_map seen result ≡ slice_get (entries (stack_map self.now)) index }
+        ensures map { IfSome result (λ one. stack_map one.view ≡ stack_map self.now) }
     {
         let mut records = self.records();
         'skipping: for _ in 0..index {
             records.next()?;
         }
-        records.next()
+        match records.next() {
+            None => None,
+            Some(one) => Some(one.found_in(*self)),
+        }
     }
 
     /// The first record with this return address, if there is one. It goes over the records; `MapIndex` searches by halves.
     pub fn find(&self, return_address: u64) -> Option<RecordRef<'a>>
-        ensures { option_map seen result ≡ entry_at (stack_map self.now) return_address }
+        ensures found { option_map seen result ≡ entry_at (stack_map self.now) return_address }
+        ensures map { IfSome result (λ one. stack_map one.view ≡ stack_map self.now) }
     {
         for record in self.records() {
             if record.return_address() == return_address {
-                return Some(record);
+                return Some(record.found_in(*self));
             }
         }
         None

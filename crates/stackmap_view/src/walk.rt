@@ -8,11 +8,13 @@ ghost use Rattle.stackmap_view.specs.Owners.{owned};
 
 use crate::owners::Owner;
 use crate::records::{RecordRef, record_size};
+use crate::view::MapView;
 
 /// The records of a map in order, each lent out of the map's bytes. A step goes over one record, and over entries of functions
 /// that have none.
 #[derive(Clone, Copy, Debug)]
 pub struct Records<'a> {
+    pub(crate) view: MapView<'a>,
     pub(crate) owner: Owner<'a>,
     pub(crate) records: &'a [u8],
     pub(crate) count: u32,
@@ -31,8 +33,9 @@ impl<'a> Records<'a> {
     {
         let owner = self.owner.with_record();
         let (bytes, records) = split_record(self.count, self.records);
-        let record = RecordRef::of(&owner, bytes);
+        let record = RecordRef::of(self.view, &owner, bytes);
         let others = Records {
+            view: self.view,
             owner: owner.behind_one(),
             records,
             count: self.count - 1,

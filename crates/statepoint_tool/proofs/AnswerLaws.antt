@@ -3,7 +3,7 @@ use Rattle.std.proofs.Common.{◌≡◌, ◌≢◌, ℕ, ◌⊎◌, inl, inr, Li
 use Rattle.sp_ids.specs.declared.ends.End.{End}
 use Rattle.sp_ids.specs.declared.ends.End.TheVariants as ended_by
 use Rattle.ir_ast.specs.declared.modules.Form.TheVariants as text_forms
-use Rattle.statepoint_tool.specs.Answers.{SinkSeen, Gained, SinkFailed, Came, IsBegun, IsTold, IsSaidInPart, IsAnswer}
+use Rattle.statepoint_tool.specs.Answers.{SinkSeen, Gained, SinkFailed, Came, IsBegun, IsTold, IsSaidInPart, IsAnswer, PutByLine}
 use Rattle.generated_forms.specs.Modules.{generated}
 use Rattle.gen_report.specs.Summaries.{summary_of}
 use Rattle.statepoint_tool.specs.Causes.{AsksToGenerate, CannotRead, Ends, by_showing, by_checking, by_rewriting, by_running, by_running_rewritten, by_executing, by_generating, module_run}
@@ -12,7 +12,7 @@ use Rattle.statepoint_tool.specs.Statuses.{CauseOf, Exactly, IsDue, NoteFailed, 
 use Rattle.statepoint_tool.specs.Steps.{Step, Go, Stop}
 use Rattle.statepoint_tool.specs.Taken.{FilesSeen}
 use Rattle.tool_words.specs.Words.{command_of}
-use Rattle.statepoint_tool.specs.Work.{Output, Given, MayGiveNamed, Generating, generates, content_of, ended_with, shown, passed, written_of, output_of, work}
+use Rattle.statepoint_tool.specs.Work.{Output, Given, MayGiveNamed, Generating, generates, content_of, ended_with, shown, passed, written_of, output_of, work, lines_of_run, told_with}
 use Rattle.statepoint_tool.specs.Closings.{status_of_end}
 use Rattle.statepoint_tool.specs.declared.refusal.Cause.{Cause}
 use Rattle.statepoint_tool.specs.declared.refusal.Cause.TheVariants as cause
@@ -112,34 +112,34 @@ module _ (words : List (List ℕ)) (files : FilesSeen) (out notes : SinkSeen) (g
   ends_of : (output : Output) → work words given (Go output) → Ends words given output
   ends_of output due = Explains-work words given (Go output) due
 
-  writes_at : (output : Output) (end : End) → output.status ≡ status_of_end end → Ends words given output → Gained out output.text → Writes (status_of_end end) words files out
-  writes_at output (ended_by.Return number) is ends written = record { given = given; may = may; holds = ((output, ends, is), written) }
-  writes_at output (ended_by.Trap trap) is ends written = record { given = given; may = may; holds = ((output, ends, is), written) }
-  writes_at output ended_by.OutOfSteps is ends written = record { given = given; may = may; holds = ((output, ends, is), written) }
-  writes_at output ended_by.Poison is ends written = record { given = given; may = may; holds = ((output, ends, is), written) }
-  writes_at output ended_by.LostFrame is ends written = record { given = given; may = may; holds = ((output, ends, is), written) }
+  writes_at : (output : Output) (end : End) → output.status ≡ status_of_end end → Ends words given output → Gained out output.text × PutByLine output.lines out → Writes (status_of_end end) words files out
+  writes_at output (ended_by.Return number) is ends written = record { given = given; may = may; holds = ((output, ends, is), written.0, written.1) }
+  writes_at output (ended_by.Trap trap) is ends written = record { given = given; may = may; holds = ((output, ends, is), written.0, written.1) }
+  writes_at output ended_by.OutOfSteps is ends written = record { given = given; may = may; holds = ((output, ends, is), written.0, written.1) }
+  writes_at output ended_by.Poison is ends written = record { given = given; may = may; holds = ((output, ends, is), written.0, written.1) }
+  writes_at output ended_by.LostFrame is ends written = record { given = given; may = may; holds = ((output, ends, is), written.0, written.1) }
 
-  writes_generated : (asks : AsksToGenerate words) (output : Output) (step : Step Output) → step ≡ Go output → Generating asks.seed asks.size asks.steps step → Gained out output.text
+  writes_generated : (asks : AsksToGenerate words) (output : Output) (step : Step Output) → step ≡ Go output → Generating asks.seed asks.size asks.steps step → Gained out output.text × PutByLine output.lines out
       → Writes output.status words files out
   writes_generated asks output _ is (generates after own meant means) written =
-      let made = ended_with (summary_of (generated asks.seed asks.size) after meant) meant.end in
+      let made = told_with (summary_of (generated asks.seed asks.size) after meant) meant.end in
       let same = same-value made output is in
       subst (λ (o : Output). Writes o.status words files out) same
-      (writes_at made meant.end refl (by_generating asks made (generates after own meant means)) (subst (λ (o : Output). Gained out o.text) (sym same) written))
+      (writes_at made meant.end refl (by_generating asks made (generates after own meant means)) (subst (λ (o : Output). Gained out o.text × PutByLine o.lines out) (sym same) written))
 
-  writes_output : (output : Output) → Ends words given output → Gained out output.text → Writes output.status words files out
+  writes_output : (output : Output) → Ends words given output → Gained out output.text × PutByLine output.lines out → Writes output.status words files out
   writes_output _ (by_showing shows) written =
-      record { given = given; may = may; holds = ((shown (content_of text_forms.Source shows.lines), by_showing shows, refl), written) }
+      record { given = given; may = may; holds = ((shown (content_of text_forms.Source shows.lines), by_showing shows, refl), written.0, written.1) }
   writes_output _ (by_checking checks) written =
-      record { given = given; may = may; holds = ((passed, by_checking checks, refl), written) }
+      record { given = given; may = may; holds = ((passed, by_checking checks, refl), written.0, written.1) }
   writes_output _ (by_rewriting rewrites) written =
-      record { given = given; may = may; holds = ((written_of rewrites.reads.asks.part rewrites.after, by_rewriting rewrites, refl), written) }
+      record { given = given; may = may; holds = ((written_of rewrites.reads.asks.part rewrites.after, by_rewriting rewrites, refl), written.0, written.1) }
   writes_output _ (by_running runs outcome gives) written =
       writes_at (output_of (module_run runs.reads) outcome) outcome.end refl (by_running runs outcome gives) written
   writes_output _ (by_running_rewritten runs) written =
-      writes_at (ended_with runs.text runs.meant.end) runs.meant.end refl (by_running_rewritten runs) written
+      writes_at (ended_with runs.text (lines_of_run runs.writes) runs.meant.end) runs.meant.end refl (by_running_rewritten runs) written
   writes_output _ (by_executing runs outcome text writes) written =
-      writes_at (ended_with text outcome.end) outcome.end refl (by_executing runs outcome text writes) written
+      writes_at (ended_with text (lines_of_run writes) outcome.end) outcome.end refl (by_executing runs outcome text writes) written
   writes_output output (by_generating asks _ generating) written = writes_generated asks output (Go output) refl generating written
 
   writes_nothing : (reason : Cause) → Gained out [] → Writes (status_of_cause reason) words files out
@@ -166,7 +166,7 @@ module _ (words : List (List ℕ)) (files : FilesSeen) (out notes : SinkSeen) (g
 
   writes_of : (ended : Result Status Refusal) (status : Status) → Came ended (work words given) out → IsTold ended status notes → Writes status words files out
   writes_of (Ok ended) status came told =
-      subst (λ (s : Status). Writes s words files out) (sym (told.0 ∙ came.status_is)) (writes_output came.output (ends_of came.output came.defined) came.written)
+      subst (λ (s : Status). Writes s words files out) (sym (told.0 ∙ came.status_is)) (writes_output came.output (ends_of came.output came.defined) (came.written, came.by_line))
   writes_of (Err (Defined reason)) status came (inl said) =
       subst (λ (s : Status). Writes s words files out) (sym said.status_is) (writes_nothing reason came.unwritten)
   writes_of (Err (Defined reason)) status came (inr part) =
@@ -186,7 +186,7 @@ module _ (words : List (List ℕ)) (files : FilesSeen) (out notes : SinkSeen) (g
   says_generated : (asks : AsksToGenerate words) (output : Output) (step : Step Output) → step ≡ Go output → Generating asks.seed asks.size asks.steps step → Gained notes []
       → Says output.status words files out notes
   says_generated asks output _ is (generates after own meant means) silent =
-      subst (λ (o : Output). Says o.status words files out notes) (same-value (ended_with (summary_of (generated asks.seed asks.size) after meant) meant.end) output is)
+      subst (λ (o : Output). Says o.status words files out notes) (same-value (told_with (summary_of (generated asks.seed asks.size) after meant) meant.end) output is)
       (says_nothing meant.end silent)
 
   says_output : (output : Output) → Ends words given output → Gained notes [] → Says output.status words files out notes

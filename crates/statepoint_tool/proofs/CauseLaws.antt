@@ -1,5 +1,5 @@
 -- Each status of the work comes exactly by its cause.
-use Rattle.std.proofs.Common.{◌≡◌, ◌≤◌, ℕ, Bool, true, false, List, [], length, Option, Some, None, refl, sym, ap, subst, ◌∙◌}
+use Rattle.std.proofs.Common.{◌≡◌, ◌≤◌, ℕ, true, false, List, [], length, Option, Some, None, refl, sym, ap, subst, ◌∙◌}
 use Rattle.std.specs.Prelude.{ℤ}
 use Rattle.sp_ids.specs.declared.ends.End.{End}
 use Rattle.sp_ids.specs.declared.ends.End.TheVariants as ended
@@ -14,7 +14,7 @@ use Rattle.map_bytes.specs.Maps.{StackMap}
 use Rattle.pair_facts.specs.Faults.{IsVerified, IsLeastFault as IsLeastCheckFault}
 use Rattle.stackmap_write.specs.ModuleMaps.{map_of}
 use Rattle.tool_io.specs.Counts.{Rose}
-use Rattle.statepoint_tool.specs.Causes.{IsAccepted, AsksToShow, AsksToCheck, AsksToRewrite, AsksToGenerate, IsAskedFor, by_source, by_run, by_exec, AsksForRun, ReadsToRewrite, ReadsModule, ReadsInput, ReadsPlan, Runs, RunsRewritten, Executes, IsExecuted, shown_by, ReadsForMap, IsTrusted, Checks, engine_asked, module_run, steps_asked, Ends, by_showing, by_checking, by_rewriting, by_running, by_running_rewritten, by_executing, by_generating, EndsWith, NoCommand, NamesModule, to_show, to_check, to_rewrite, to_run, NamesJudged, to_judge, to_run_judged, HasCheckFault, HasSomeCheckFault, NamesSource, to_write, to_run_rewritten, HasModuleFault, in_text, too_many, HasSomeModuleFault, HasSomeInputFault, HasSomePlanFault, HasSomeMapFault, FileGives, module_gives, input_gives, plan_gives, map_gives, CannotRead, IsTooLong, StopsBy}
+use Rattle.statepoint_tool.specs.Causes.{IsAccepted, AsksToShow, AsksToCheck, AsksToRewrite, AsksToGenerate, IsAskedFor, by_source, by_run, by_exec, AsksForRun, ReadsToRewrite, ReadsModule, ReadsInput, ReadsPlan, Runs, Executes, IsExecuted, shown_by, ReadsForMap, IsTrusted, engine_asked, module_run, steps_asked, Ends, by_showing, by_checking, by_rewriting, by_running, by_running_rewritten, by_executing, by_generating, EndsWith, NoCommand, NamesModule, to_show, to_check, to_rewrite, to_run, NamesJudged, to_judge, to_run_judged, HasSomeCheckFault, NamesSource, to_write, to_run_rewritten, HasModuleFault, in_text, too_many, HasSomeModuleFault, HasSomeInputFault, HasSomePlanFault, HasSomeMapFault, FileGives, module_gives, input_gives, plan_gives, map_gives, CannotRead, IsTooLong, StopsBy}
 use Rattle.ir_cfg.specs.TypedModules.{IsModuleOf}
 use Rattle.sp_rewrite.specs.Relocates.{HasManyRelocates}
 use Rattle.sp_rewrite.specs.Statements.{IsRewritten}
@@ -30,7 +30,7 @@ use Rattle.statepoint_tool.specs.Statuses.{CauseOf, status_of_step}
 use Rattle.statepoint_tool.specs.Steps.{Step, Go, Stop, Then, goes_on, stops}
 use Rattle.statepoint_tool.specs.Taken.{Taken, Bytes, Longer, Faulty, FilesSeen, MayGive, file_phase}
 use Rattle.tool_words.specs.Words.{command_of}
-use Rattle.statepoint_tool.specs.Work.{Output, Given, Generating, generates, MayGiveFile, MayGiveMap, MayGiveAll, MayGiveNamed, form_of, map_named, map_phase, showing, ReadingMap, no_map, Executing, executes, ended_with, run_phase, RunningRewritten, comes_rewritten, content_of, shown, passed, written_of, module_phase, Judging, verified, said_no, judged, checked_phase, run_module_phase, after_check, check_work, Rewriting, rewritten, too_many as has_too_many, after_rewriting, rewrite_phase, ReadingInput, has_numbers, no_input, ReadingPlan, planned, no_plan, show_phase, after_input, after_module, Running, run_work, comes, output_of, command_work, work}
+use Rattle.statepoint_tool.specs.Work.{Output, Given, Generating, generates, MayGiveFile, MayGiveAll, MayGiveNamed, form_of, map_named, map_phase, showing, ReadingMap, no_map, Executing, executes, ended_with, run_phase, RunningRewritten, comes_rewritten, content_of, shown, passed, written_of, module_phase, Judging, verified, said_no, judged, checked_phase, run_module_phase, after_check, Rewriting, rewritten, too_many as has_too_many, after_rewriting, rewrite_phase, ReadingInput, has_numbers, no_input, ReadingPlan, planned, no_plan, show_phase, after_input, after_module, Running, run_work, comes, output_of, command_work, work, lines_of_run, told_with}
 use Rattle.statepoint_tool.specs.Closings.{status_of_end}
 use Rattle.statepoint_tool.specs.declared.refusal.Cause.{Cause}
 use Rattle.statepoint_tool.specs.declared.refusal.Cause.TheVariants as cause
@@ -99,8 +99,8 @@ Once-run_work engine request given =
 
 Once-Generating : (seed size steps : ℕ) → Once (Generating seed size steps)
 Once-Generating seed size steps _ _ (generates after is one first) (generates again also other second) =
-    ap (λ (code : ModuleContent). Go (ended_with (summary_of (generated seed size) code one) one.end)) (rewriting_is_one (generated seed size) after again is also)
-    ∙ ap (λ (outcome : Outcome). Go (ended_with (summary_of (generated seed size) again outcome) outcome.end))
+    ap (λ (code : ModuleContent). Go (told_with (summary_of (generated seed size) code one) one.end)) (rewriting_is_one (generated seed size) after again is also)
+    ∙ ap (λ (outcome : Outcome). Go (told_with (summary_of (generated seed size) again outcome) outcome.end))
     (gives_one (source_setting (generated seed size) (go flipping) steps) [] one other first second)
 
 Once-command : (command : Option Command) (given : Given) → Once (command_work command given)
@@ -451,7 +451,7 @@ module _ (words : List (List ℕ)) (given : Given) where
 
   cause_of_generated : (asks : AsksToGenerate words) (output : Output) (step : Step Output) → step ≡ Go output → Generating asks.seed asks.size asks.steps step → CauseOf output.status words given
   cause_of_generated asks output _ is (generates after own meant means) =
-      let made = ended_with (summary_of (generated asks.seed asks.size) after meant) meant.end in
+      let made = told_with (summary_of (generated asks.seed asks.size) after meant) meant.end in
       subst (λ (o : Output). CauseOf o.status words given) (same-value made output is)
       (cause_at_end made meant.end refl (by_generating asks made (generates after own meant means)))
 
@@ -461,8 +461,8 @@ module _ (words : List (List ℕ)) (given : Given) where
   cause_of_output _ (by_rewriting rewrites) = (written_of rewrites.reads.asks.part rewrites.after, by_rewriting rewrites, refl)
   cause_of_output _ (by_running runs outcome gives) =
       cause_at_end (output_of (module_run runs.reads) outcome) outcome.end refl (by_running runs outcome gives)
-  cause_of_output _ (by_running_rewritten runs) = cause_at_end (ended_with runs.text runs.meant.end) runs.meant.end refl (by_running_rewritten runs)
-  cause_of_output _ (by_executing runs outcome text writes) = cause_at_end (ended_with text outcome.end) outcome.end refl (by_executing runs outcome text writes)
+  cause_of_output _ (by_running_rewritten runs) = cause_at_end (ended_with runs.text (lines_of_run runs.writes) runs.meant.end) runs.meant.end refl (by_running_rewritten runs)
+  cause_of_output _ (by_executing runs outcome text writes) = cause_at_end (ended_with text (lines_of_run writes) outcome.end) outcome.end refl (by_executing runs outcome text writes)
   cause_of_output output (by_generating asks _ generating) = cause_of_generated asks output (Go output) refl generating
 
   -- and so has its status
@@ -586,10 +586,10 @@ module _ (words : List (List ℕ)) (given : Given) (within : IsWithin words give
   work-ends _ (by_running runs outcome gives) =
       phase_by runs.reads Meaning (Go (output_of (module_run runs.reads) outcome)) runs.engine (comes outcome gives)
   work-ends _ (by_running_rewritten runs) =
-      phase_by runs.reads (Rewriter None runs.shows) (Go (ended_with runs.text runs.meant.end)) runs.engine
+      phase_by runs.reads (Rewriter None runs.shows) (Go (ended_with runs.text (lines_of_run runs.writes) runs.meant.end)) runs.engine
       (comes_rewritten runs.meant runs.means runs.after runs.rewritten runs.machine runs.text runs.writes)
   work-ends _ (by_executing runs outcome text writes) =
-      let output = ended_with text outcome.end in
+      let output = ended_with text (lines_of_run writes) outcome.end in
       over_map_phase runs.reads (engine_asked runs.reads) refl runs.code runs.runs (Go output) (goes_on runs.map (Go output) runs.takes (executes outcome text writes))
   work-ends output (by_generating asks _ generating) = commanded words given (Some (Gen asks.seed asks.size asks.steps)) (Go output) asks.command generating
 

@@ -1,5 +1,5 @@
 -- What the command `rewrite` writes, the command `check` takes.
-use Rattle.std.proofs.Common.{◌≡◌, ◌≤◌, ◌∙◌, ℕ, List, length, Bool, Option, Some, refl, sym, ap, subst}
+use Rattle.std.proofs.Common.{◌≡◌, ◌≤◌, ◌∙◌, ℕ, List, length, Option, Some, refl, sym, subst}
 use Rattle.std.specs.List.{All}
 use Rattle.ir_ast.specs.declared.modules.Form.TheVariants.{Rewritten, Source}
 use Rattle.ir_ast.specs.Bundles.{HasNoBundle}
@@ -7,7 +7,6 @@ use Rattle.ir_ast.specs.Modules.{LinedModule}
 use Rattle.ir_cfg.specs.SourceModules.{IsSourceModule}
 use Rattle.ir_lines.specs.Modules.{module_of}
 use Rattle.ir_lines.specs.Statements.{Line, lines_of}
-use Rattle.ir_printer.specs.Texts.{text_of}
 use Rattle.ir_types.specs.FaultSet.{HasNoFault}
 use Rattle.read_back.proofs.accepted_texts.Accepted.{accepted_is_source}
 use Rattle.tool_words.specs.Words.{command_of}
@@ -16,7 +15,7 @@ use Rattle.tool_words.specs.declared.request.Command.TheVariants.{Check, Exec, G
 use Rattle.tool_words.specs.declared.request.Part.{Part}
 use Rattle.tool_words.specs.declared.request.Part.TheVariants.{Text}
 use Rattle.tool_words.specs.declared.request.RunRequest.{RunRequest}
-use Rattle.statepoint_tool.specs.Causes.{Ends, IsAccepted, IsAskedFor, Rewrites, by_checking, by_exec, by_executing, by_generating, by_rewriting, by_run, by_running, by_running_rewritten, by_showing, by_source}
+use Rattle.statepoint_tool.specs.Causes.{IsAccepted, IsAskedFor, Rewrites, by_checking, by_exec, by_executing, by_generating, by_rewriting, by_run, by_running, by_running_rewritten, by_showing, by_source}
 use Rattle.statepoint_tool.specs.Steps.{Go, goes_on}
 use Rattle.statepoint_tool.specs.Taken.{Bytes, FilesSeen, MayGive, Taken, file_phase}
 use Rattle.statepoint_tool.specs.Work.{Given, MayGiveNamed, MayGiveShown, check_work, checked_phase, content_of, passed, text_of_part, verified}

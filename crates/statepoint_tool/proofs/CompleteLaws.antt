@@ -3,7 +3,7 @@ use Rattle.std.proofs.Common.{◌≡◌, ℕ, ◌<◌, ◌≤◌, length, ◌⊎
 use Rattle.std.specs.Prelude.{ℤ, IfSome}
 use Rattle.ir_ast.specs.Modules.{ModuleContent}
 use Rattle.move_plan.specs.declared.plan_lines.PlanLine.{PlanLine}
-use Rattle.statepoint_tool.specs.Answers.{SinkSeen, Gained, GainedFront, SinkFailed, Came, IsBegun, IsTold as IsToldOf, IsAnswer}
+use Rattle.statepoint_tool.specs.Answers.{SinkSeen, Gained, GainedFront, SinkFailed, Came, IsBegun, IsTold as IsToldOf, IsAnswer, PutByLine}
 use Rattle.tool_io.proofs.AppendLaws.{AppendsFront-all, AppendsFront-front}
 use Rattle.statepoint_tool.specs.Complete.{IsTold, FileIsTold, MapIsTold, RunIsTold, AllTold, IsWhole, IsShort, WantsMemory, IsComplete}
 use Rattle.statepoint_tool.specs.Causes.{Ends}
@@ -133,6 +133,7 @@ module _ (words : List (List ℕ)) (given : Given) (output : Output) (due : work
       inl (record {
         status_is = told.0 ∙ came.status_is ∙ ap (λ (o : Output). o.status) same;
         written = subst (λ (o : Output). Gained out o.text) same came.written;
+        by_line = subst (λ (o : Output). PutByLine o.lines out) same came.by_line;
         nothing_said = told.1;
       })
   whole_or_short (Err (Defined reason)) came told sure_out =

@@ -1,5 +1,5 @@
 -- The work over texts without a fault comes to its end.
-use Rattle.std.proofs.Common.{◌≡◌, ◌⊎◌, ℕ, inl, inr, List, [], Bool, Option, Some, None, refl, sym, subst}
+use Rattle.std.proofs.Common.{◌≡◌, ℕ, inl, inr, List, [], Bool, Option, Some, None, refl, sym, subst}
 use Rattle.std.specs.Prelude.{ℤ}
 use Rattle.std.specs.List.{concat}
 use Rattle.ir_ast.specs.declared.modules.Form.TheVariants as text_forms
@@ -17,7 +17,7 @@ use Rattle.object_meaning.proofs.OutcomeLaws.{gives_some}
 use Rattle.machine_meaning.specs.Code.{machinery_of}
 use Rattle.machine_meaning.specs.MachineRuns.{MachineOutcome, MachineGives}
 use Rattle.runs_unseen.proofs.machine_ends.EndLaws.{each_run_ends}
-use Rattle.run_texts.specs.RunTexts.{RunWritesQuiet, run_lines}
+use Rattle.run_texts.specs.RunTexts.{RunWrites, run_lines}
 use Rattle.sp_rewrite.specs.Statements.{IsRewritten}
 use Rattle.sp_rewrite.proofs.RewrittenLaws.{source_is_rewritten}
 use Rattle.generated_forms.specs.Modules.{generated}
@@ -28,7 +28,7 @@ use Rattle.statepoint_tool.specs.Causes.{Ends, IsExecuted, ReadsPlan, by_checkin
 use Rattle.statepoint_tool.specs.Complete.{GivesMap, IsFaultless, MapIsGood, ReadsAll, may_check, may_generate, may_rewrite, may_run, may_show}
 use Rattle.statepoint_tool.specs.Steps.{Go}
 use Rattle.statepoint_tool.specs.Taken.{Taken, file_phase}
-use Rattle.statepoint_tool.specs.Work.{Given, Output, ReadingMap, content_of, ended_with, form_of, generates, has_map, map_named, map_phase, output_of, passed, shown, written_of}
+use Rattle.statepoint_tool.specs.Work.{Given, Output, ReadingMap, content_of, ended_with, form_of, generates, has_map, map_named, map_phase, output_of, passed, shown, written_of, lines_of_run, told_with}
 use Rattle.statepoint_tool.specs.declared.engine.Engine.{Engine}
 use Rattle.statepoint_tool.specs.declared.engine.Engine.TheVariants.{Meaning, Rewriter, Machine}
 use Rattle.statepoint_tool.proofs.AcceptedLaws.{module_of_accepted}
@@ -53,12 +53,12 @@ plan_of text faultless = elim (plan_or_fault text) [
 
 pub record Texted (content : ModuleContent) (map : StackMap) (input : List ℤ) (plan : List PlanLine) (bound : ℕ) (places trace : Bool) (machine : MachineOutcome) : Type 0 where
   pub text : List ℕ
-  pub writes : RunWritesQuiet content map input plan bound places trace machine text
+  pub writes : RunWrites content map input plan bound places trace machine text
 
 pub texted : (content : ModuleContent) (map : StackMap) (input : List ℤ) (plan : List PlanLine) (bound : ℕ) (places trace : Bool) (machine : MachineOutcome)
     → MachineGives content map input plan bound machine → Texted content map input plan bound places trace machine
 texted content map input plan bound places trace machine gives = record {
-  text = concat (run_lines content (machinery_of content map plan bound) places trace input gives.run.within [] machine.end gives.last.state);
+  text = concat (run_lines content (machinery_of content map plan bound) places trace input gives.run.within machine.end gives.last.state);
   writes = record { gives = gives; is = refl };
 }
 
@@ -93,7 +93,7 @@ module _ (words : List (List ℕ)) (given : Given) (within : IsWithin words give
       let shows = shown_by (engine_asked reads) in
       let ended = each_run_ends (machinery_of code map reads.plan (steps_asked reads)) reads.reads.numbers in
       let own = texted code map reads.reads.numbers reads.plan (steps_asked reads) shows.places shows.trace ended.outcome ended.gives in
-      (ended_with own.text ended.outcome.end, by_executing (record { reads = reads; code = code; runs = runs; map = map; takes = takes }) ended.outcome own.text own.writes)
+      (ended_with own.text (lines_of_run own.writes) ended.outcome.end, by_executing (record { reads = reads; code = code; runs = runs; map = map; takes = takes }) ended.outcome own.text own.writes)
 
   runs_by : (reads : ReadsPlan words given) (engine : Engine) → engine_asked reads ≡ engine → MapIsGood (map_named engine) given.map_file → ComesToEnd words given
   runs_by reads Meaning is good =
@@ -104,7 +104,7 @@ module _ (words : List (List ℕ)) (given : Given) (within : IsWithin words give
       let found = gives_some (source_setting (module_run reads) (go reads.plan) (steps_asked reads)) reads.reads.numbers in
       let ended = each_run_ends (machinery_of made.0 (map_of made.0) reads.plan (steps_asked reads)) reads.reads.numbers in
       let own = texted made.0 (map_of made.0) reads.reads.numbers reads.plan (steps_asked reads) shows.places shows.trace ended.outcome ended.gives in (
-        ended_with own.text found.outcome.end,
+        ended_with own.text (lines_of_run own.writes) found.outcome.end,
         by_running_rewritten (record {
           reads = reads;
           shows = shows;
@@ -146,5 +146,5 @@ module _ (words : List (List ℕ)) (given : Given) (within : IsWithin words give
       let content = generated asks.seed asks.size in
       let made = source_is_rewritten content (generated_is_source asks.seed asks.size (size_fits words asks.seed asks.size asks.steps asks.command).1) in
       let found = gives_some (source_setting content (go flipping) asks.steps) [] in
-      let output = ended_with (summary_of content made.0 found.outcome) found.outcome.end in
+      let output = told_with (summary_of content made.0 found.outcome) found.outcome.end in
       (output, by_generating asks output (generates made.0 made.1 found.outcome found.gives))

@@ -1,5 +1,5 @@
 -- What is known of a call, from its whole answer.
-use Rattle.std.proofs.Common.{◌≡◌, ◌⊎◌, ℕ, List, Option, Result, Ok, Err, OnOk, inl, inr, subst}
+use Rattle.std.proofs.Common.{ℕ, List, Result, Ok, Err, OnOk, inl, inr, subst}
 use Rattle.statepoint_tool.specs.Answers.{IsAnswer, IsTold, SinkSeen}
 use Rattle.statepoint_tool.specs.Facts.{Facts}
 use Rattle.statepoint_tool.specs.Named.{IsEnd}

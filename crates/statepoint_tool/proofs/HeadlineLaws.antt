@@ -1,12 +1,10 @@
 -- The headline and what a yes of the verifier means, from the whole answer of a call.
 use Rattle.std.proofs.Common.{◌≡◌, ◌≤◌, ℕ, ◌⊎◌, inl, inr, List, [], length, Bool, true, false, Option, Some, None, Result, Ok, refl, sym, ap, subst, ◌∙◌}
 use Rattle.std.specs.Prelude.{ℤ}
-use Rattle.std.specs.List.{All}
 use Rattle.std.proofs.Math.Path.{fun_ext}
 use Rattle.sp_ids.specs.declared.ends.End.{End}
 use Rattle.sp_ids.specs.declared.ends.End.TheVariants as ended
 use Rattle.ir_ast.specs.declared.modules.Form.TheVariants as text_forms
-use Rattle.ir_ast.specs.Bundles.{HasNoBundle}
 use Rattle.ir_ast.specs.Modules.{ModuleContent}
 use Rattle.ir_lines.specs.Modules.{module_of}
 use Rattle.ir_lines.specs.Statements.{Line, lines_of}
@@ -14,7 +12,6 @@ use Rattle.ir_reader.specs.Text.{Fault, Numbered, readings_in}
 use Rattle.map_bytes.specs.Maps.{StackMap}
 use Rattle.stackmap_write.specs.ModuleMaps.{map_of}
 use Rattle.stackmap_write.proofs.FitLaws.{target_map_is_map}
-use Rattle.move_plan.specs.declared.plan_lines.PlanLine.{PlanLine}
 use Rattle.move_plan.specs.Plans.{go}
 use Rattle.object_meaning.specs.Outcomes.{Outcome}
 use Rattle.object_meaning.specs.SourceRuns.{source_setting}
@@ -27,13 +24,12 @@ use Rattle.runs_unseen.proofs.machine_ends.EndLaws.{each_run_ends}
 use Rattle.moves_unseen.specs.Statements.{IsSeen}
 use Rattle.moves_unseen.specs.Waits.{IsSound}
 use Rattle.runs_unseen.proofs.SeenRuns.{keeps_way, seen_here}
-use Rattle.run_texts.specs.RunTexts.{RunWritesQuiet}
+use Rattle.run_texts.specs.RunTexts.{RunWrites}
 use Rattle.rewritten_runs.specs.ShownTexts.{IsShownText}
-use Rattle.rewritten_runs.proofs.shown_runs.SeenLaws.{quiet_is_whole, sources_are_shown, verified_are_shown}
+use Rattle.rewritten_runs.proofs.shown_runs.SeenLaws.{sources_are_shown, verified_are_shown}
 use Rattle.rewritten_runs.specs.Runs.{IsRunOnMachine}
 use Rattle.rewritten_runs.proofs.RunLaws.{sources_run_on_machine}
 use Rattle.sp_rewrite.specs.Statements.{IsRewritten}
-use Rattle.sp_rewrite.proofs.BareLaws.{no_bundle}
 use Rattle.sp_rewrite.proofs.RewrittenLaws.{few_unless_many, rewriting_is_target, rewriting_is_verified, rewriting_keeps_meaning}
 use Rattle.generated_forms.specs.Modules.{generated}
 use Rattle.gen_report.specs.Summaries.{summary_of}
@@ -44,18 +40,17 @@ use Rattle.tool_words.specs.declared.request.Part.{Part}
 use Rattle.tool_words.specs.declared.request.Part.TheVariants.{Text, MapBytes}
 use Rattle.tool_words.specs.declared.request.RunRequest.{RunRequest}
 use Rattle.statepoint_tool.specs.Answers.{SinkSeen, SinkFailed, IsAnswer}
-use Rattle.statepoint_tool.specs.Causes.{AsksToGenerate, IsAccepted, IsAskedFor, by_source, by_run, by_exec, IsTrusted, ReadsPlan, RunsRewritten, Executes, IsExecuted, Ends, by_showing, by_checking, by_rewriting, by_running, by_running_rewritten, by_executing, by_generating, EndsWith, engine_asked, module_run, steps_asked}
+use Rattle.statepoint_tool.specs.Causes.{AsksToGenerate, IsAccepted, IsAskedFor, by_source, by_run, by_exec, IsTrusted, ReadsPlan, RunsRewritten, Executes, IsExecuted, Ends, by_showing, by_checking, by_rewriting, by_running, by_running_rewritten, by_executing, by_generating, engine_asked, module_run, steps_asked}
 use Rattle.statepoint_tool.specs.Closings.{status_of_end}
 use Rattle.statepoint_tool.specs.Complete.{AllTold, IsWhole, IsShort}
-use Rattle.statepoint_tool.specs.Headline.{IsToRun, IsToRunSource, IsToRunVerified, EndsAs, WritesRun, text_alone, IsRunAsMeant, IsHeadline, IsVerifiedRun, RunsVerified, AsksToStray, on_trust, over_map, over_map_of_run, StrayIsAsked, IsSameProgram, PlansAreFree}
-use Rattle.statepoint_tool.specs.Statuses.{OverSome}
+use Rattle.statepoint_tool.specs.Headline.{IsToRunSource, IsToRunVerified, EndsAs, WritesRun, IsRunAsMeant, IsHeadline, IsVerifiedRun, RunsVerified, AsksToStray, on_trust, over_map, over_map_of_run, StrayIsAsked, PlansAreFree}
 use Rattle.statepoint_tool.specs.Steps.{Step, Go, goes_on}
 use Rattle.statepoint_tool.specs.Taken.{Taken, Bytes, FilesSeen, file_phase}
-use Rattle.statepoint_tool.specs.Work.{Given, Generating, generates, Output, MayGiveAll, MayGiveNamed, content_of, ended_with, form_of, map_named, map_phase, module_phase, rewrite_work, rewritten, showing, written_of}
+use Rattle.statepoint_tool.specs.Work.{Given, Generating, generates, Output, MayGiveAll, MayGiveNamed, content_of, ended_with, form_of, map_named, map_phase, module_phase, rewrite_work, rewritten, showing, written_of, lines_of_run, told_with}
 use Rattle.statepoint_tool.specs.declared.engine.Engine.{Engine}
 use Rattle.statepoint_tool.specs.declared.engine.Engine.TheVariants.{Meaning, Rewriter, Machine}
 use Rattle.statepoint_tool.specs.declared.status.Status.{Status}
-use Rattle.statepoint_tool.specs.declared.status.Status.TheVariants.{Done, Trapped, OutOfSteps, Stray, WantOfMemory, WriteFault}
+use Rattle.statepoint_tool.specs.declared.status.Status.TheVariants.{Done, Stray}
 use Rattle.statepoint_tool.proofs.AcceptedLaws.{module_of_accepted, same_bytes, sound_of_accepted, within_given, within_told}
 use Rattle.statepoint_tool.proofs.AnswerLaws.{Exactly-answer}
 use Rattle.statepoint_tool.proofs.CauseLaws.{IsWithin, comes-EndsWith}
@@ -73,10 +68,10 @@ ends_as ended.OutOfSteps status final is = is
 ends_as ended.Poison status final is = absurd final
 ends_as ended.LostFrame status final is = absurd final
 
-writes_run : (text : List ℕ) (end : End) (status : Status) (out notes : SinkSeen) → IsFinal end
-    → IsWhole (ended_with text end) status out notes ⊎ IsShort (ended_with text end) status out notes → WritesRun text end status out notes
-writes_run text end status out notes final (inl whole) = inl (whole, ends_as end status final whole.status_is)
-writes_run text end status out notes final (inr short) = inr short
+writes_run : (text : List ℕ) (lines : List (List ℕ)) (end : End) (status : Status) (out notes : SinkSeen) → IsFinal end
+    → IsWhole (ended_with text lines end) status out notes ⊎ IsShort (ended_with text lines end) status out notes → WritesRun text lines end status out notes
+writes_run text lines end status out notes final (inl whole) = inl (whole, ends_as end status final whole.status_is)
+writes_run text lines end status out notes final (inr short) = inr short
 
 not_stray : (end : End) → IsFinal end → status_of_end end ≡ Stray → ⊥
 not_stray (ended.Return number) final is = cc
@@ -138,7 +133,7 @@ module _ (words : List (List ℕ)) (given : Given) (places trace : Bool) (run : 
       let few = few_unless_many source is.0 run.known in
       let found = gives_some (source_setting source (go run.plan) run.request.steps) run.input in
       let moved : IsRunOnMachine source run.input run.plan run.request.steps found.outcome =
-      sources_run_on_machine source few.reached is.0 is.1 few.drops run.input run.plan run.request.steps found.outcome found.gives in
+      sources_run_on_machine source few.reached is.0 few.drops run.input run.plan run.request.steps found.outcome found.gives in
       let own = texted moved.after (map_of moved.after) run.input run.plan run.request.steps places trace moved.machine moved.gives in
       let runs : RunsRewritten words given = record {
         reads = source_reads;
@@ -152,12 +147,11 @@ module _ (words : List (List ℕ)) (given : Given) (places trace : Bool) (run : 
         text = own.text;
         writes = own.writes;
       } in
-      let whole = written_as words files out notes status answer given (ended_with own.text found.outcome.end) told (by_running_rewritten runs) sure in
+      let whole = written_as words files out notes status answer given (ended_with own.text (lines_of_run own.writes) found.outcome.end) told (by_running_rewritten runs) sure in
       let sound : IsSound moved.after = record {
         target = rewriting_is_target source moved.after is.0 moved.rewritten;
         verified = rewriting_is_verified source moved.after is.0 moved.rewritten;
       } in
-      let bare = no_bundle source moved.after moved.rewritten is.1 in
       let seen = seen_here moved.after sound run.input run.plan run.request.steps moved.machine moved.gives in
       let meant_again = (rewriting_keeps_meaning source moved.after is.0 moved.rewritten run.input (go run.plan) run.request.steps seen.outcome).1 seen.gives in
       let one = gives_one (source_setting source (go run.plan) run.request.steps) run.input seen.outcome found.outcome meant_again found.gives in
@@ -167,11 +161,11 @@ module _ (words : List (List ℕ)) (given : Given) (places trace : Bool) (run : 
         text = own.text;
         shown =
             sources_are_shown source moved.after moved.rewritten run.plan places trace found.outcome own.text
-            (verified_are_shown moved.after sound bare run.input run.plan run.request.steps places trace found.outcome moved.machine own.text own.writes
+            (verified_are_shown moved.after sound run.input run.plan run.request.steps places trace found.outcome moved.machine own.text own.writes
             (subst (λ (o : Outcome). IsSeen moved.after o moved.machine) one seen.seen));
-        writes = writes_run own.text found.outcome.end status out notes found.final whole;
+        writes = writes_run own.text (lines_of_run own.writes) found.outcome.end status out notes found.final whole;
         moved = moved;
-        machine_writes = quiet_is_whole moved.after bare run.input run.plan run.request.steps places trace moved.machine own.text own.writes;
+        machine_writes = own.writes;
         module_text = part_written Text moved.after moved.rewritten;
         bytes = part_written MapBytes moved.after moved.rewritten;
         is_map = record { allowed = target_map_is_map moved.after (rewriting_is_target source moved.after is.0 moved.rewritten); spelled = refl };
@@ -218,9 +212,6 @@ module _ (words : List (List ℕ)) (given : Given) (places trace : Bool) (run : 
   own_sound : length run.text ≤ 16777216 → IsSound target
   own_sound within = sound_of_accepted run.text run.lines within run.accepted run.known
 
-  own_bare : length run.text ≤ 16777216 → All HasNoBundle target.funcs
-  own_bare within = (module_of_accepted text_forms.Rewritten run.text run.lines within run.accepted).1
-
   -- the only output of a run of a verified module
   record OwnOutput : Type 0 where
     meant : Outcome
@@ -228,10 +219,10 @@ module _ (words : List (List ℕ)) (given : Given) (places trace : Bool) (run : 
     machine : MachineOutcome
     seen : IsSeen target meant machine
     text : List ℕ
-    writes : RunWritesQuiet target (map_of target) run.input run.plan run.request.steps places trace machine text
+    writes : RunWrites target (map_of target) run.input run.plan run.request.steps places trace machine text
     shown : IsShownText target run.plan places trace meant text
     final : IsFinal meant.end
-    ends : Ends words given (ended_with text meant.end)
+    ends : Ends words given (ended_with text (lines_of_run writes) meant.end)
 
   own_output : length run.text ≤ 16777216 → OwnOutput
   own_output within =
@@ -246,25 +237,25 @@ module _ (words : List (List ℕ)) (given : Given) (places trace : Bool) (run : 
         seen = found.seen;
         text = own.text;
         writes = own.writes;
-        shown = verified_are_shown target sound (own_bare within) run.input run.plan run.request.steps places trace found.outcome ended.outcome own.text own.writes found.seen;
+        shown = verified_are_shown target sound run.input run.plan run.request.steps places trace found.outcome ended.outcome own.text own.writes found.seen;
         final = gives_final _ run.input found.outcome found.gives;
-        ends = subst (λ (end : End). Ends words given (ended_with own.text end)) found.seen.end (by_executing executes ended.outcome own.text own.writes);
+        ends = subst (λ (end : End). Ends words given (ended_with own.text (lines_of_run own.writes) end)) found.seen.end (by_executing executes ended.outcome own.text own.writes);
       }
 
   verified_run : (files : FilesSeen) (out notes : SinkSeen) (status : Status) → IsAnswer words files out notes status → length run.text ≤ 16777216
       → AllTold files (command_of words) given → ¬ SinkFailed out → IsVerifiedRun run status out notes
   verified_run files out notes status answer within told sure =
       let own = own_output within in
-      let whole = written_as words files out notes status answer given (ended_with own.text own.meant.end) told own.ends sure in
+      let whole = written_as words files out notes status answer given (ended_with own.text (lines_of_run own.writes) own.meant.end) told own.ends sure in
       record {
         meant = own.meant;
         means = own.means;
         text = own.text;
         shown = own.shown;
-        writes = writes_run own.text own.meant.end status out notes own.final whole;
+        writes = writes_run own.text (lines_of_run own.writes) own.meant.end status out notes own.final whole;
         machine = own.machine;
         seen = own.seen;
-        machine_writes = quiet_is_whole target (own_bare within) run.input run.plan run.request.steps places trace own.machine own.text own.writes;
+        machine_writes = own.writes;
       }
 
 pub RunsVerified-answer : (words : List (List ℕ)) (files : FilesSeen) (out notes : SinkSeen) (status : Status) → IsAnswer words files out notes status → RunsVerified words files out notes status
@@ -336,7 +327,7 @@ module _ (words : List (List ℕ)) (given : Given) (files : FilesSeen) (may : Ma
     where
       stray_generated : (asks : AsksToGenerate words) (output : Output) (step : Step Output) → step ≡ Go output → Generating asks.seed asks.size asks.steps step → output.status ≡ Stray → ⊥
       stray_generated asks output _ same (generates after own meant means) is =
-          let made = ended_with (summary_of (generated asks.seed asks.size) after meant) meant.end in
+          let made = told_with (summary_of (generated asks.seed asks.size) after meant) meant.end in
           not_stray meant.end (gives_final _ [] meant means) (ap (λ (o : Output). o.status) (same-value made output same) ∙ is)
 
 pub StrayIsAsked-answer : (words : List (List ℕ)) (files : FilesSeen) (out notes : SinkSeen) (status : Status) → IsAnswer words files out notes status → StrayIsAsked words status
@@ -383,8 +374,8 @@ plans_are_free words other_words given other places trace other_places other_tra
     ap (content_of text_forms.Rewritten) (same_lines one.text two.text one.lines two.lines text one.accepted two.accepted) in
     let same : second.meant ≡ first.meant =
     same_gives _ _ one.input two.input (go one.plan) (go two.plan) one.request.steps two.request.steps first.meant second.meant same_code input (fun_ext lines) steps first.means second.means in
-    let own : ended_with first.text first.meant.end ≡ output = one_output words given (within_of words given one.text one.taken within) _ output first.ends ends in
-    let again : ended_with second.text second.meant.end ≡ other_output = one_output other_words other (within_of other_words other two.text two.taken other_within) _ other_output second.ends other_ends in
+    let own : ended_with first.text (lines_of_run first.writes) first.meant.end ≡ output = one_output words given (within_of words given one.text one.taken within) _ output first.ends ends in
+    let again : ended_with second.text (lines_of_run second.writes) second.meant.end ≡ other_output = one_output other_words other (within_of other_words other two.text two.taken other_within) _ other_output second.ends other_ends in
     record {
       meant = first.meant;
       shown = subst (λ (o : Output). IsShownText (target words given places trace one) one.plan places trace first.meant o.text) own first.shown;

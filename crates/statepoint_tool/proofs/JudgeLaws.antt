@@ -1,12 +1,10 @@
 -- What verifying a module comes to, before it is run or told of.
-use Rattle.std.proofs.Common.{◌≡◌, ◌∙◌, inl, inr, ℕ, Bool, true, false, List, Option, refl, sym, ap, subst, arith}
+use Rattle.std.proofs.Common.{◌≡◌, ◌∙◌, inl, inr, ℕ, true, false, List, Option, refl, sym, ap, subst, arith}
 use Rattle.ir_ast.specs.declared.modules.Form.TheVariants as text_forms
 use Rattle.ir_ast.specs.Modules.{LinedModule, ModuleContent}
 use Rattle.ir_cfg.specs.TypedModules.{IsModuleOf}
 use Rattle.sp_rewrite.specs.Relocates.{HasManyRelocates}
 use Rattle.sp_rewrite.proofs.RewrittenLaws.{source_is_rewritten}
-use Rattle.ir_lines.specs.Statements.{Line}
-use Rattle.ir_lines.specs.Modules.{module_of}
 use Rattle.pair_facts.specs.Faults.{IsVerified, IsNoLater, IsLeastFault}
 use Rattle.statepoint_verify.specs.declared.faults.Fault.{Fault as CheckFault}
 use Rattle.statepoint_verify.specs.declared.faults.VerifyFault.{VerifyFault}

@@ -1,5 +1,7 @@
 -- Runs on the machine, as a phase of the work.
-use Rattle.std.proofs.Common.{◌≡◌, ℕ, List, Option, Some, None, Result, refl, sym, ap, subst, ◌∙◌}
+use Rattle.std.specs.List.{All}
+use Rattle.piece_writer.specs.LinePuts.{IsShort}
+use Rattle.std.proofs.Common.{◌≡◌, ◌++◌, ℕ, Bool, List, Option, Some, None, Result, refl, sym, ap, subst, ◌∙◌}
 use Rattle.std.specs.Prelude.{ℤ}
 use Rattle.sp_ids.specs.declared.ends.End.{End}
 use Rattle.ir_ast.specs.Modules.{ModuleContent}
@@ -12,23 +14,27 @@ use Rattle.move_plan.specs.Plans.{go}
 use Rattle.object_meaning.specs.Outcomes.{Outcome}
 use Rattle.object_meaning.specs.SourceRuns.{SourceGives}
 use Rattle.machine_meaning.specs.Code.{machinery_of}
-use Rattle.machine_meaning.specs.MachineRuns.{MachineOutcome, MachineGives}
+use Rattle.machine_meaning.specs.Machines.{Machine as MachineState}
+use Rattle.machine_meaning.specs.MachineRuns.{MachineOutcome, MachineGives, machine_opening, machine_proceeds}
 use Rattle.machine_meaning.proofs.OutcomeLaws.{gives_one}
-use Rattle.run_texts.specs.RunTexts.{RunWritesQuiet, no_frames}
+use Rattle.object_meaning.specs.Effects.{Progress}
+use Rattle.object_meaning.specs.Runs.{Go as Onward}
+use Rattle.object_meaning.proofs.RunLaws.{one_end, traced_more}
+use Rattle.run_texts.specs.RunTexts.{RunWrites, last_lines, lines_from, run_lines, step_lines}
 use Rattle.run_texts.proofs.TextLaws.{one_text}
 use Rattle.run_tasks.specs.declared.runs.Ran.{Ran}
 use Rattle.ir_machine.specs.declared.run.Shows.{Shows}
-use Rattle.ir_machine.specs.Answers.{IsRun, WritesFront}
+use Rattle.ir_machine.specs.Answers.{IsRun, PutsRun, PutsRunOver, WritesFront}
 use Rattle.moves_unseen.specs.Waits.{IsSound}
 use Rattle.runs_unseen.proofs.SeenRuns.{seen_here}
 use Rattle.sp_rewrite.proofs.RewrittenLaws.{rewriting_is_verified, rewriting_keeps_meaning}
 use Rattle.stackmap_write.specs.ModuleMaps.{map_of}
-use Rattle.statepoint_tool.specs.Answers.{IsBegun, IsDone, SinkSeen, Works}
+use Rattle.statepoint_tool.specs.Answers.{IsBegun, IsDone, PutEach, SinkSeen, Works}
 use Rattle.statepoint_tool.specs.Closings.{status_of_end}
 use Rattle.statepoint_tool.specs.Steps.{Step, Go, Stop, Then, goes_on, stops, comes_to}
 use Rattle.statepoint_tool.specs.Runners.{IsItself, IsRewrittenOf, engine_of, module_in}
 use Rattle.statepoint_tool.specs.Taken.{FilesSeen, file_phase}
-use Rattle.statepoint_tool.specs.Work.{MayGiveFile, MayGiveMap, map_phase, run_phase, Executing, executes, ended_with, Output, ReadingMap, has_map, no_map, Rewriting, rewritten, RunningRewritten, comes_rewritten}
+use Rattle.statepoint_tool.specs.Work.{MayGiveFile, MayGiveMap, map_phase, run_phase, Executing, executes, ended_with, lines_of_run, Output, ReadingMap, has_map, no_map, Rewriting, rewritten, RunningRewritten, comes_rewritten}
 use Rattle.statepoint_tool.specs.declared.engine.Engine.TheVariants.{Rewriter}
 use Rattle.statepoint_tool.specs.declared.refusal.Cause.{Cause}
 use Rattle.statepoint_tool.specs.declared.refusal.Cause.TheVariants.{Map}
@@ -42,12 +48,35 @@ use Rattle.statepoint_tool.proofs.WorksLaws.{Came-goes_on, Came-like}
 
 -- ---- a run has one output
 
+-- the lines of two runs of a module are the same
+pub run_lines_same : (content : ModuleContent) (map : StackMap) (input : List ℤ) (plan : List PlanLine) (bound : ℕ) (places trace : Bool) (one other : MachineOutcome)
+    → (first : MachineGives content map input plan bound one) (second : MachineGives content map input plan bound other)
+    → run_lines content (machinery_of content map plan bound) places trace input first.run.within one.end first.last.state
+    ≡ run_lines content (machinery_of content map plan bound) places trace input second.run.within other.end second.last.state
+run_lines_same content map input plan bound places trace one other first second =
+    let machinery = machinery_of content map plan bound in
+    let start = machine_opening machinery input in
+    let same = one_end (machine_proceeds machinery) start one.end other.end first.last second.last first.run second.run in
+    let steps = traced_more (λ progress. step_lines machinery trace progress.state) (machine_proceeds machinery) first.run.within second.run.within (Onward start)
+    one.end other.end first.last second.last first.run.by second.run.by in
+    let before = lines_from machinery trace second.run.within (Onward start) in
+    ap (λ lines. lines ++ last_lines content machinery places one.end first.last.state) steps
+    ∙ ap (λ (end : End). before ++ last_lines content machinery places end first.last.state) same.end
+    ∙ ap (λ (last : Progress MachineState). before ++ last_lines content machinery places other.end last.state) same.last
+
+pub same_lines_of_run : (content : ModuleContent) (map : StackMap) (input : List ℤ) (plan : List PlanLine) (bound : ℕ) (places trace : Bool) (one other : MachineOutcome) (text other_text : List ℕ)
+    → (first : RunWrites content map input plan bound places trace one text) (second : RunWrites content map input plan bound places trace other other_text)
+    → lines_of_run first ≡ lines_of_run second
+same_lines_of_run content map input plan bound places trace one other text other_text first second =
+    run_lines_same content map input plan bound places trace one other first.gives second.gives
+
 ended_as : (content : ModuleContent) (input : List ℤ) (plan : List PlanLine) (steps : ℕ) (shows : Shows) (map : StackMap) (one other : MachineOutcome) (text other_text : List ℕ)
-    → RunWritesQuiet content map input plan steps shows.places shows.trace one text → RunWritesQuiet content map input plan steps shows.places shows.trace other other_text
-    → ended_with text one.end ≡ ended_with other_text other.end
+    → (first : RunWrites content map input plan steps shows.places shows.trace one text) (second : RunWrites content map input plan steps shows.places shows.trace other other_text)
+    → ended_with text (lines_of_run first) one.end ≡ ended_with other_text (lines_of_run second) other.end
 ended_as content input plan steps shows map one other text other_text first second =
-    ap (λ (t : List ℕ). ended_with t one.end) (one_text no_frames content map input plan steps shows.places shows.trace one other text other_text first second)
-    ∙ ap (λ (outcome : MachineOutcome). ended_with other_text outcome.end) (gives_one (machinery_of content map plan steps) input one other first.gives second.gives)
+    ap (λ (t : List ℕ). ended_with t (lines_of_run first) one.end) (one_text content map input plan steps shows.places shows.trace one other text other_text first second)
+    ∙ ap (λ (lines : List (List ℕ)). ended_with other_text lines one.end) (same_lines_of_run content map input plan steps shows.places shows.trace one other text other_text first second)
+    ∙ ap (λ (outcome : MachineOutcome). ended_with other_text (lines_of_run second) outcome.end) (gives_one (machinery_of content map plan steps) input one other first.gives second.gives)
 
 pub Once-Executing : (content : ModuleContent) (input : List ℤ) (plan : List PlanLine) (steps : ℕ) (shows : Shows) (map : StackMap) → Once (Executing content input plan steps shows map)
 Once-Executing content input plan steps shows map _ _ (executes one text first) (executes other other_text second) =
@@ -90,22 +119,29 @@ own_map bytes map next is _ (stops cause first) = stops cause (reads_own bytes m
 pub begun-machine : (content : ModuleContent) (bytes : List ℕ) (input : List ℤ) (plan : List PlanLine) (steps : ℕ) (shows : Shows) (out : SinkSeen)
     → WritesFront content bytes input plan steps shows out.old out.new → IsBegun (λ output. Then (ReadingMap bytes) (Executing content input plan steps shows) (Go output)) out
 begun-machine content bytes input plan steps shows out writes = record {
-  output = ended_with writes.front.text writes.front.outcome.end;
+  output = ended_with writes.front.text (lines_of_run writes.front.writes) writes.front.outcome.end;
   defined =
-      goes_on writes.map (Go (ended_with writes.front.text writes.front.outcome.end)) (has_map writes.map writes.is_map) (executes writes.front.outcome writes.front.text writes.front.writes);
+      goes_on writes.map (Go (ended_with writes.front.text (lines_of_run writes.front.writes) writes.front.outcome.end)) (has_map writes.map writes.is_map) (executes writes.front.outcome writes.front.text writes.front.writes);
   front = writes.front.front;
 }
 
 -- all of it is the output
 pub done-machine : (content : ModuleContent) (bytes : List ℕ) (input : List ℤ) (plan : List PlanLine) (steps : ℕ) (shows : Shows) (ran : Ran) (out : SinkSeen)
-    → IsRun content bytes input plan steps shows ran out.old out.new → (status : Status) → status ≡ status_of_end ran.end
-    → IsDone status (Then (ReadingMap bytes) (Executing content input plan steps shows)) out
-done-machine content bytes input plan steps shows ran out run status is =
-    let whole = ended_with run.over.text run.over.outcome.end in record {
+    → IsRun content bytes input plan steps shows ran out.old out.new
+    → PutsRun content bytes input plan steps shows (record { written = out.old; puts = out.puts_before }) (record { written = out.new; puts = out.puts_after })
+    → (status : Status) → status ≡ status_of_end ran.end → IsDone status (Then (ReadingMap bytes) (Executing content input plan steps shows)) out
+done-machine content bytes input plan steps shows ran out run puts status is =
+    let whole = ended_with run.over.text (lines_of_run run.over.writes) run.over.outcome.end in
+    let same_map = map_laws.one_map bytes puts.map run.map puts.is_map run.is_map in
+    let over = subst (λ (m : StackMap). PutsRunOver content m input plan steps shows (record { written = out.old; puts = out.puts_before }) (record { written = out.new; puts = out.puts_after })) same_map puts.over in
+    record {
       output = whole;
       defined = goes_on run.map (Go whole) (has_map run.map run.is_map) (executes run.over.outcome run.over.text run.over.writes);
       status_is = is ∙ ap (λ (answer : Ran). status_of_end answer.end) run.over.answer;
       written = run.over.written;
+      by_line = λ short.
+          let same = run_lines_same content run.map input plan steps shows.places shows.trace over.outcome run.over.outcome over.gives run.over.writes.gives in
+          subst (PutEach out) same (over.puts (subst (All IsShort) (sym same) short));
     }
 
 -- ---- what runs for a module that is asked for
@@ -133,7 +169,7 @@ module _ (content after : ModuleContent) (is : IsRewrittenOf content after) (inp
   rewritten_step : (step : Step Output) → Executing after input plan steps shows (map_of after) step → RunningRewritten content input plan steps shows step
   rewritten_step _ (executes machine text writes) =
       let found = meant_by content after is input plan steps machine writes.gives in
-      subst (λ (end : End). RunningRewritten content input plan steps shows (Go (ended_with text end))) (sym found.end)
+      subst (λ (end : End). RunningRewritten content input plan steps shows (Go (ended_with text (lines_of_run writes) end))) (sym found.end)
       (comes_rewritten found.meant found.means after is.rewritten machine text writes)
 
   rewritten_own : (step : Step Output) → Then (comes_to (Go (map_of after))) (Executing after input plan steps shows) step → RunningRewritten content input plan steps shows step

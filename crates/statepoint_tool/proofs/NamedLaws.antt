@@ -1,6 +1,7 @@
 -- The work where no file was taken.
 use Rattle.std.proofs.Common.{◌≡◌, ℕ, List, [], Option, Some, None, Result, Err, inl, refl, sym, subst}
 use Rattle.tool_io.proofs.AppendLaws.{append_known-nil}
+use Rattle.piece_writer.specs.LinePuts.{SinkTold}
 use Rattle.statepoint_tool.specs.Answers.{Came, SinkSeen, Works, sink_seen}
 use Rattle.statepoint_tool.specs.Steps.{Step, Stop}
 use Rattle.statepoint_tool.specs.Taken.{FilesSeen, Bytes}
@@ -54,24 +55,24 @@ MayGiveNamed-as_told files (Some (Exec request map_file trust places trace)) = M
 MayGiveNamed-as_told files (Some (Gen seed size steps)) = tt
 
 -- want of memory before anything was written
-pub Works-memory : (files : FilesSeen) (command : Option Command) (phases : Given → Step Output → Type 0) (old : Option (List ℕ)) (faults : ℕ) →
+pub Works-memory : (files : FilesSeen) (command : Option Command) (phases : Given → Step Output → Type 0) (old : SinkTold) (faults : ℕ) →
     Works (MayGiveNamed files command) phases (Err Memory) (sink_seen old old faults faults)
 Works-memory files command phases old faults =
     record {
       given = all_as_told files command;
       may = MayGiveNamed-as_told files command;
-      came = inl (sym (append_known-nil old));
+      came = inl (sym (append_known-nil old.written));
     }
 
 -- words that give no command
-pub Works-no_command : (words : List (List ℕ)) (files : FilesSeen) (old : Option (List ℕ)) (faults : ℕ) → command_of words ≡ None →
+pub Works-no_command : (words : List (List ℕ)) (files : FilesSeen) (old : SinkTold) (faults : ℕ) → command_of words ≡ None →
     Works (MayGiveNamed files (command_of words)) (work words) (Err (Defined Words)) (sink_seen old old faults faults)
 Works-no_command words files old faults none =
     let given = all_as_told files (command_of words) in
     record {
       given = given;
       may = MayGiveNamed-as_told files (command_of words);
-      came = record { defined = subst (λ (command : Option Command). command_work command given (Stop Words)) (sym none) refl; unwritten = sym (append_known-nil old) };
+      came = record { defined = subst (λ (command : Option Command). command_work command given (Stop Words)) (sym none) refl; unwritten = sym (append_known-nil old.written) };
     }
 
 -- a generated module takes no file

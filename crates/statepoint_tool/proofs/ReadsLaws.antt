@@ -1,7 +1,7 @@
 -- Phases that read a file.
 use Rattle.std.proofs.Common.{◌≡◌, ℕ, ◌≤◌, List, length, IfSome, Result, Ok, Err, refl, Vec, Global}
 use Rattle.statepoint_tool.specs.Answers.{Agrees, Reads}
-use Rattle.statepoint_tool.specs.Steps.{Step, Go, Stop, Then, comes_to}
+use Rattle.statepoint_tool.specs.Steps.{Step, Go, Then, comes_to}
 use Rattle.statepoint_tool.specs.Taken.{Taken, Bytes, Longer, Faulty, FilesSeen, file_phase}
 use Rattle.statepoint_tool.specs.declared.refusal.Cause.TheVariants.{ReadFault, TooLong}
 use Rattle.statepoint_tool.specs.declared.refusal.Refusal.{Refusal}

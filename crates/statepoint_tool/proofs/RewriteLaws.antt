@@ -1,5 +1,5 @@
 -- What rewriting a module comes to.
-use Rattle.std.proofs.Common.{◌≡◌, refl, ap}
+use Rattle.std.proofs.Common.{refl, ap}
 use Rattle.ir_ast.specs.Modules.{ModuleContent, LinedModule}
 use Rattle.sp_rewrite.proofs.RewrittenLaws.{rewriting_is_one}
 use Rattle.statepoint_tool.specs.Steps.{Go}

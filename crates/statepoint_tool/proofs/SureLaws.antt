@@ -2,9 +2,10 @@
 use Rattle.std.proofs.Common.{◌≡◌, ◌⊎◌, ℕ, List, Option, inl, inr}
 use Rattle.tool_io.proofs.CountLaws.{Rose-zero-absurd}
 use Rattle.tool_words.specs.Words.{command_of}
+use Rattle.piece_writer.specs.LinePuts.{SinkTold}
 use Rattle.statepoint_tool.specs.Answers.{SinkSeen, sink_seen}
 use Rattle.statepoint_tool.specs.Causes.{Ends}
-use Rattle.statepoint_tool.specs.Complete.{AllTold, HasEnded, IsFaultless, IsWhole, IsShort}
+use Rattle.statepoint_tool.specs.Complete.{AllTold, HasEnded, IsFaultless, IsShort}
 use Rattle.statepoint_tool.specs.Facts.{Facts}
 use Rattle.statepoint_tool.specs.Statuses.{ReadFaultCounted}
 use Rattle.statepoint_tool.specs.Taken.{FilesSeen, files_seen}
@@ -16,10 +17,10 @@ use Rattle.statepoint_tool.specs.declared.status.Status.TheVariants as status
 abbrev pub sure_files : (List ℕ → Option (List ℕ)) → FilesSeen
 sure_files contents = files_seen contents (λ _. 0) (λ _. 0)
 
-abbrev pub sure_sink : (old new : Option (List ℕ)) → SinkSeen
+abbrev pub sure_sink : (old new : SinkTold) → SinkSeen
 sure_sink old new = sink_seen old new 0 0
 
-module _ (words : List (List ℕ)) (contents : List ℕ → Option (List ℕ)) (old new old_notes new_notes : Option (List ℕ)) (ended : Status)
+module _ (words : List (List ℕ)) (contents : List ℕ → Option (List ℕ)) (old new old_notes new_notes : SinkTold) (ended : Status)
     (facts : Facts words (sure_files contents) (sure_sink old new) (sure_sink old_notes new_notes) ended) where
   pub no_read_fault : ¬ (ended ≡ status.ReadFault)
   no_read_fault is = (let counted : ReadFaultCounted words (sure_files contents) = facts.read_fault_counted is in Rose-zero-absurd counted.holds.1)

@@ -1,15 +1,12 @@
 -- What reading and typing a module's text come to.
-use Rattle.std.proofs.Common.{◌≡◌, ℕ, inl, inr, List, [], ◌∷◌, map, Result, Ok, Err, ◌∙◌, refl, sym, ap, subst, arith}
+use Rattle.std.proofs.Common.{◌≡◌, ℕ, inl, inr, List, Result, Ok, Err, ◌∙◌, refl, sym, ap, subst, arith}
 use Rattle.ir_ast.specs.declared.modules.Form.{Form as TextForm}
 use Rattle.ir_ast.specs.Modules.{LinedModule}
 use Rattle.ir_reader.specs.Text.{Numbered, Fault, syntax_fault, limit_fault, readings_in}
 use Rattle.ir_lines.specs.declared.faults.Fault.{Fault as TypeFault}
-use Rattle.ir_reader.specs.declared.raw.NumberedReading.{NumberedReading}
-use Rattle.ir_reader.specs.Raws.{seen_numbered}
 use Rattle.ir_types.specs.Answers.{IsTypedAs, Answers}
 use Rattle.ir_types.specs.declared.faults.TypeFault.{TypeFault as TypingFault}
 use Rattle.ir_types.specs.declared.faults.TypeFault.TheVariants as answers
-use Rattle.ir_lines.specs.Views.{seen_line, seen_lines}
 use Rattle.ir_lines.specs.Statements.{Line, lines_of}
 use Rattle.ir_lines.specs.FaultOrder.{ComesFirst}
 use Rattle.ir_types.specs.FaultSet.{IsLeastFault}

@@ -2,6 +2,7 @@
 use Rattle.std.proofs.Common.{◌≡◌, ℕ, List, Option, Result, Ok, Err, inl, inr, sym, ap, subst, Vec, Global}
 use Rattle.tool_io.specs.Counts.{NoneFell}
 use Rattle.tool_io.proofs.AppendLaws.{append_known-nil}
+use Rattle.piece_writer.specs.LinePuts.{SinkTold}
 use Rattle.statepoint_tool.specs.Answers.{Agrees, Came, IsBegun, Reads, SinkSeen, sink_seen, Works}
 use Rattle.statepoint_tool.specs.Steps.{Step, Go, Stop, comes_to, Then, goes_on, stops}
 use Rattle.statepoint_tool.specs.Taken.{Taken, Bytes, Longer, Faulty, FilesSeen, files_seen, MayGive, file_phase}
@@ -14,12 +15,12 @@ use Rattle.statepoint_tool.specs.declared.status.Status.{Status}
 use Rattle.statepoint_tool.proofs.GivenLaws.{MayGive-later}
 use Rattle.statepoint_tool.proofs.StepLaws.{stop_in, same-value, not_both}
 
-pub Came-stops : {A B : Type 0} (phase : Step A → Type 0) (rest : A → Step Output → Type 0) (view : B → A) (refusal : Refusal) (old : Option (List ℕ)) (faults : ℕ) →
+pub Came-stops : {A B : Type 0} (phase : Step A → Type 0) (rest : A → Step Output → Type 0) (view : B → A) (refusal : Refusal) (old : SinkTold) (faults : ℕ) →
     Agrees view (Err refusal) phase → Came (Err refusal) (Then phase rest) (sink_seen old old faults faults)
 Came-stops phase rest view (Defined cause) old faults agrees =
-    record { defined = stops cause agrees; unwritten = sym (append_known-nil old) }
+    record { defined = stops cause agrees; unwritten = sym (append_known-nil old.written) }
 Came-stops phase rest view WriteFault old faults agrees = absurd agrees
-Came-stops phase rest view Memory old faults agrees = inl (sym (append_known-nil old))
+Came-stops phase rest view Memory old faults agrees = inl (sym (append_known-nil old.written))
 
 begun-goes_on : {A : Type 0} (phase : Step A → Type 0) (rest : A → Step Output → Type 0) (value : A) (out : SinkSeen) → phase (Go value) →
     IsBegun (λ output. rest value (Go output)) out → IsBegun (λ output. Then phase rest (Go output)) out
@@ -29,7 +30,7 @@ begun-goes_on phase rest value out first begun =
 pub Came-goes_on : {A : Type 0} (phase : Step A → Type 0) (rest : A → Step Output → Type 0) (value : A) (result : Result Status Refusal) (out : SinkSeen) → phase (Go value) →
     Came result (rest value) out → Came result (Then phase rest) out
 Came-goes_on phase rest value (Ok status) out first came =
-    record { output = came.output; defined = goes_on value (Go came.output) first came.defined; status_is = came.status_is; written = came.written }
+    record { output = came.output; defined = goes_on value (Go came.output) first came.defined; status_is = came.status_is; written = came.written; by_line = came.by_line }
 Came-goes_on phase rest value (Err (Defined cause)) out first came =
     record { defined = goes_on value (Stop cause) first came.defined; unwritten = came.unwritten }
 Came-goes_on phase rest value (Err WriteFault) out first came = (came.0, begun-goes_on phase rest value out first came.1)
@@ -40,7 +41,7 @@ Came-goes_on phase rest value (Err Memory) out first (inr begun) = inr (begun-go
 pub Came-like : (phase other : Step Output → Type 0) (result : Result Status Refusal) (out : SinkSeen) → ((step : Step Output) → phase step → other step) →
     Came result phase out → Came result other out
 Came-like phase other (Ok status) out like came =
-    record { output = came.output; defined = like (Go came.output) came.defined; status_is = came.status_is; written = came.written }
+    record { output = came.output; defined = like (Go came.output) came.defined; status_is = came.status_is; written = came.written; by_line = came.by_line }
 Came-like phase other (Err (Defined cause)) out like came = record { defined = like (Stop cause) came.defined; unwritten = came.unwritten }
 Came-like phase other (Err WriteFault) out like came =
     (came.0, record { output = came.1.output; defined = like (Go came.1.output) came.1.defined; front = came.1.front })
@@ -71,7 +72,7 @@ Agrees-goes_on phase view value (Err Memory) rest last first agrees = tt
 
 -- where the one file's phase refuses, so does the work
 pub Works-stops_at : {A B : Type 0} {files : FilesSeen} {name : List ℕ} {read : List ℕ → Step A → Type 0} {view : B → A} {refusal : Refusal} →
-    (rest : A → Step Output → Type 0) (old : Option (List ℕ)) (faults : ℕ) → Reads files name read view (Err refusal) →
+    (rest : A → Step Output → Type 0) (old : SinkTold) (faults : ℕ) → Reads files name read view (Err refusal) →
     Works (MayGive files name) (λ given. Then (file_phase name read given) rest) (Err refusal) (sink_seen old old faults faults)
 Works-stops_at {A} {B} {files} {name} {read} {view} {refusal} rest old faults reads =
     record {
@@ -114,7 +115,7 @@ Works-taken {A} {files} {name} {value} {result} {out} read rest reads came =
     record { given = reads.given; may = reads.may_give; came = came_taken name read rest value.items reads.given result out reads.agrees came }
 
 pub Works-untaken : {A : Type 0} {files : FilesSeen} {name : List ℕ} {refusal : Refusal}
-    (read : List ℕ → Step A → Type 0) (rest : A → Step Output → Type 0) (old : Option (List ℕ)) (faults : ℕ) →
+    (read : List ℕ → Step A → Type 0) (rest : A → Step Output → Type 0) (old : SinkTold) (faults : ℕ) →
     Reads files name (λ text. comes_to (Go text)) (λ (taken : Vec ℕ Global). taken.items) (Err refusal) →
     Works (MayGive files name) (λ given. Then (file_phase name read given) rest) (Err refusal) (sink_seen old old faults faults)
 Works-untaken {A} {files} {name} {refusal} read rest old faults reads =
@@ -127,13 +128,13 @@ Works-untaken {A} {files} {name} {refusal} read rest old faults reads =
     came_untaken : (why : Refusal) → Agrees (λ (taken : Vec ℕ Global). taken.items) (Err why) (file_phase name (λ text. comes_to (Go text)) reads.given) →
         Came (Err why) (Then (file_phase name read reads.given) rest) (sink_seen old old faults faults)
     came_untaken (Defined cause) agrees =
-        record { defined = stops cause (stops_untaken name read rest reads.given cause agrees); unwritten = sym (append_known-nil old) }
+        record { defined = stops cause (stops_untaken name read rest reads.given cause agrees); unwritten = sym (append_known-nil old.written) }
     came_untaken WriteFault agrees = absurd agrees
-    came_untaken Memory agrees = inl (sym (append_known-nil old))
+    came_untaken Memory agrees = inl (sym (append_known-nil old.written))
 
 -- where a file's phase refuses, so does the work, whatever the later files may give
 pub Works-stops : {A B G : Type 0} {files : FilesSeen} {name : List ℕ} {read : List ℕ → Step A → Type 0} {view : B → A} {refusal : Refusal} →
-    (rest : A → G → Step Output → Type 0) (may : G → Type 0) (others : G) → may others → (old : Option (List ℕ)) (faults : ℕ) →
+    (rest : A → G → Step Output → Type 0) (may : G → Type 0) (others : G) → may others → (old : SinkTold) (faults : ℕ) →
     Reads files name read view (Err refusal) →
     Works {G = Taken × G} (λ given. MayGive files name given.0 × may given.1)
     (λ given. Then (file_phase name read given.0) (λ value. rest value given.1))

@@ -1,7 +1,9 @@
 -- What a call answers and writes, over what the files gave.
-use Rattle.std.specs.Prelude.{◌≡◌, ℕ, ⊤, ◌⊎◌, List, [], Option, Result, Ok, Err}
+use Rattle.std.specs.Prelude.{◌≡◌, ℕ, ⊤, ◌⊎◌, List, [], Option, Some, None, Result, Ok, Err}
+use Rattle.std.specs.List.{All}
 use Rattle.tool_io.specs.Counts.{Rose}
 use Rattle.tool_io.specs.Sink.{AppendsFront, append_known}
+use Rattle.piece_writer.specs.LinePuts.{IsShort, PutsLines, SinkTold}
 use Rattle.statepoint_tool.specs.Steps.{Step, Go, Stop}
 use Rattle.statepoint_tool.specs.Taken.{Taken, FilesSeen, MayGive, file_phase}
 use Rattle.statepoint_tool.specs.Notes.{refusal_line, status_of_refusal}
@@ -13,16 +15,25 @@ use Rattle.statepoint_tool.specs.declared.refusal.Refusal.TheVariants.{Defined, 
 use Rattle.statepoint_tool.specs.declared.status.Status.{Status}
 use Rattle.statepoint_tool.specs.declared.status.Status.TheVariants as ending
 
--- what a call sees of a sink: the list that was written, where it is told, and the count of faults,
+-- what a call sees of a sink: the list that was written and the pieces that were put, where they are told, and the count of faults,
 -- before the call and after it
 pub record SinkSeen : Type 0 where
   pub old : Option (List ℕ)
   pub new : Option (List ℕ)
+  pub puts_before : Option (List (List ℕ))
+  pub puts_after : Option (List (List ℕ))
   pub faults_before : ℕ
   pub faults_after : ℕ
 
-abbrev pub sink_seen : (old new : Option (List ℕ)) (before after : ℕ) → SinkSeen
-sink_seen old new before after = record { old = old; new = new; faults_before = before; faults_after = after }
+abbrev pub sink_seen : (old new : SinkTold) (before after : ℕ) → SinkSeen
+sink_seen old new before after = record {
+  old = old.written;
+  new = new.written;
+  puts_before = old.puts;
+  puts_after = new.puts;
+  faults_before = before;
+  faults_after = after;
+}
 
 -- the sink grew by exactly these bytes; by a front of them
 abbrev pub Gained : SinkSeen → List ℕ → Type 0
@@ -30,6 +41,16 @@ Gained sink bytes = sink.new ≡ append_known sink.old bytes
 
 abbrev pub GainedFront : SinkSeen → List ℕ → Type 0
 GainedFront sink bytes = AppendsFront sink.old sink.new bytes
+
+-- exactly these lines were put, each by one call
+abbrev pub PutEach : SinkSeen → List (List ℕ) → Type 0
+PutEach sink lines =
+    PutsLines (record { written = sink.old; puts = sink.puts_before }) (record { written = sink.new; puts = sink.puts_after }) lines
+
+-- the lines of such an output were put so, where none has more than 8,192 bytes; no other output has lines
+abbrev pub PutByLine : Option (List (List ℕ)) → SinkSeen → Type 0
+PutByLine None sink = ⊤
+PutByLine (Some lines) sink = All IsShort lines → PutEach sink lines
 
 abbrev pub SinkFailed : SinkSeen → Type 0
 SinkFailed sink = Rose sink.faults_before sink.faults_after
@@ -47,12 +68,13 @@ pub record Reads {A B : Type 0} (files : FilesSeen) (name : List ℕ) (read : Li
   pub may_give : MayGive files name given
   pub agrees : Agrees view result (file_phase name read given)
 
--- the work came to its end: its status is the output's, and all of the output's text was written
+-- the work came to its end: its status is the output's, and all of the output's text was written, the lines of a run one by one
 pub record IsDone (status : Status) (phase : Step Output → Type 0) (out : SinkSeen) : Type 0 where
   pub output : Output
   pub defined : phase (Go output)
   pub status_is : status ≡ output.status
   pub written : Gained out output.text
+  pub by_line : PutByLine output.lines out
 
 -- the work stops by this cause, and nothing was written
 pub record IsRefused (cause : Cause) (phase : Step Output → Type 0) (out : SinkSeen) : Type 0 where

@@ -6,7 +6,7 @@ use Rattle.ir_lines.specs.Statements.{Line, lines_of}
 use Rattle.ir_types.specs.FaultSet.{HasNoFault, IsLeastFault}
 use Rattle.ir_ast.specs.declared.modules.Form.{Form as TextForm}
 use Rattle.ir_ast.specs.declared.modules.Form.TheVariants as text_forms
-use Rattle.ir_ast.specs.Modules.{ModuleContent, LinedModule}
+use Rattle.ir_ast.specs.Modules.{ModuleContent}
 use Rattle.ir_lines.specs.Modules.{module_of}
 use Rattle.pair_facts.specs.Faults.{IsVerified, IsLeastFault as IsLeastCheckFault}
 use Rattle.statepoint_verify.specs.declared.faults.Fault.{Fault as CheckFault}
@@ -20,7 +20,7 @@ use Rattle.map_bytes.specs.Maps.{StackMap}
 use Rattle.map_bytes.specs.Faults.{IsFirstFault}
 use Rattle.map_bytes.specs.declared.rules.MapFault.{MapFault}
 use Rattle.machine_meaning.specs.MachineRuns.{MachineOutcome}
-use Rattle.run_texts.specs.RunTexts.{RunWritesQuiet}
+use Rattle.run_texts.specs.RunTexts.{RunWrites}
 use Rattle.stackmap_write.specs.ModuleMaps.{map_of}
 use Rattle.ir_machine.specs.declared.run.Shows.{Shows}
 use Rattle.object_meaning.specs.Outcomes.{Outcome}
@@ -29,7 +29,7 @@ use Rattle.statepoint_tool.specs.PlanFaults.{IsLeastPlanFault}
 use Rattle.statepoint_tool.specs.Steps.{Go}
 use Rattle.statepoint_tool.specs.Taken.{Taken, Bytes, Longer, Faulty}
 use Rattle.tool_words.specs.Words.{command_of}
-use Rattle.statepoint_tool.specs.Work.{Given, Output, Generating, content_of, shown, showing, passed, written_of, ended_with, output_of, form_of, map_named, map_phase}
+use Rattle.statepoint_tool.specs.Work.{Generating, Given, Output, content_of, ended_with, form_of, lines_of_run, map_named, map_phase, output_of, passed, showing, shown, written_of}
 use Rattle.statepoint_tool.specs.declared.refusal.Cause.{Cause}
 use Rattle.statepoint_tool.specs.declared.refusal.Cause.TheVariants as cause
 use Rattle.statepoint_tool.specs.declared.refusal.ModuleFault.{ModuleFault}
@@ -197,7 +197,7 @@ pub record RunsRewritten (words : List (List ℕ)) (given : Given) : Type 0 wher
   pub rewritten : IsRewritten (module_run reads) after
   pub machine : MachineOutcome
   pub text : List ℕ
-  pub writes : RunWritesQuiet after (map_of after) reads.reads.numbers reads.plan (steps_asked reads) shows.places shows.trace machine text
+  pub writes : RunWrites after (map_of after) reads.reads.numbers reads.plan (steps_asked reads) shows.places shows.trace machine text
 
 -- what the machine runs by itself, not as the source meaning: a rewritten module that was read, or over a given stack map the
 -- rewritten module of a source module
@@ -223,7 +223,7 @@ pub record Executes (words : List (List ℕ)) (given : Given) : Type 0 where
 -- its run over that map and that input and under that plan gives this, and writes this text
 abbrev pub MachineWrites : {words : List (List ℕ)} {given : Given} → Executes words given → MachineOutcome → List ℕ → Type 0
 MachineWrites runs outcome text =
-    RunWritesQuiet runs.code runs.map runs.reads.reads.numbers runs.reads.plan (steps_asked runs.reads)
+    RunWrites runs.code runs.map runs.reads.reads.numbers runs.reads.plan (steps_asked runs.reads)
     (shown_by (engine_asked runs.reads)).places (shown_by (engine_asked runs.reads)).trace outcome text
 
 -- ---- the causes
@@ -235,9 +235,9 @@ pub data Ends (words : List (List ℕ)) (given : Given) : Output → Type 0 wher
   by_checking : (checks : Checks words given) → Ends words given passed
   by_rewriting : (rewrites : Rewrites words given) → Ends words given (written_of rewrites.reads.asks.part rewrites.after)
   by_running : (runs : Runs words given) (outcome : Outcome) → RunGives runs.reads outcome → Ends words given (output_of (module_run runs.reads) outcome)
-  by_running_rewritten : (runs : RunsRewritten words given) → Ends words given (ended_with runs.text runs.meant.end)
-  by_executing : (runs : Executes words given) (outcome : MachineOutcome) (text : List ℕ) → MachineWrites runs outcome text
-      → Ends words given (ended_with text outcome.end)
+  by_running_rewritten : (runs : RunsRewritten words given) → Ends words given (ended_with runs.text (lines_of_run runs.writes) runs.meant.end)
+  by_executing : (runs : Executes words given) (outcome : MachineOutcome) (text : List ℕ) → (writes : MachineWrites runs outcome text)
+      → Ends words given (ended_with text (lines_of_run writes) outcome.end)
   by_generating : (asks : AsksToGenerate words) (output : Output) → Generating asks.seed asks.size asks.steps (Go output) → Ends words given output
 
 abbrev pub EndsWith : Status → List (List ℕ) → Given → Type 0

@@ -1,7 +1,7 @@
 -- Completeness: told files without fault, and no fault counted, lead to an end, and give the whole of what is defined.
 use Rattle.std.specs.Prelude.{◌≡◌, ℕ, ◌≤◌, ⊤, ◌⊎◌, List, [], length, Option, Some, None}
 use Rattle.tool_io.specs.Counts.{Rose}
-use Rattle.statepoint_tool.specs.Answers.{SinkSeen, Gained, GainedFront, SinkFailed}
+use Rattle.statepoint_tool.specs.Answers.{SinkSeen, Gained, GainedFront, PutByLine, SinkFailed}
 use Rattle.ir_ast.specs.declared.modules.Form.TheVariants as text_forms
 use Rattle.map_bytes.specs.Maps.{StackMap, IsMapOf}
 use Rattle.move_plan.specs.Inputs.{HasNoInputFault}
@@ -87,10 +87,11 @@ pub data IsFaultless (words : List (List ℕ)) (given : Given) : Type 0 where
 
 -- ---- what is written
 
--- the defined output with the defined status, and nothing said
+-- the defined output with the defined status, a run's lines one by one, and nothing said
 pub record IsWhole (output : Output) (status : Status) (out notes : SinkSeen) : Type 0 where
   pub status_is : status ≡ output.status
   pub written : Gained out output.text
+  pub by_line : PutByLine output.lines out
   pub nothing_said : Gained notes []
 
 -- memory was wanted; or that was to be said, and standard error failed

@@ -35,7 +35,7 @@ use Rattle.statepoint_tool.specs.Causes.{Ends, IsAccepted}
 use Rattle.statepoint_tool.specs.Complete.{AllTold, IsWhole, IsShort}
 use Rattle.statepoint_tool.specs.Steps.{Go}
 use Rattle.statepoint_tool.specs.Taken.{Bytes, FilesSeen}
-use Rattle.statepoint_tool.specs.Work.{Given, Output, content_of, ended_with, rewrite_work}
+use Rattle.statepoint_tool.specs.Work.{Given, Output, content_of, ended_with, lines_of_run, rewrite_work}
 use Rattle.statepoint_tool.specs.declared.status.Status.{Status}
 use Rattle.statepoint_tool.specs.declared.status.Status.TheVariants.{Done, Trapped, OutOfSteps, Stray}
 
@@ -82,16 +82,16 @@ EndsAs RanOut status = status ≡ OutOfSteps
 EndsAs Poison status = ⊥
 EndsAs LostFrame status = ⊥
 
--- what `out` has grown by is this text, the status is that of the end, and nothing was said; or memory was wanted after a front of
--- that
-abbrev pub WritesRun : List ℕ → End → Status → (out notes : SinkSeen) → Type 0
-WritesRun text end status out notes =
-    (IsWhole (ended_with text end) status out notes × EndsAs end status) ⊎ IsShort (ended_with text end) status out notes
+-- what `out` has grown by is this text, by these lines, the status is that of the end, and nothing was said; or memory was wanted after
+-- a front of that
+abbrev pub WritesRun : List ℕ → List (List ℕ) → End → Status → (out notes : SinkSeen) → Type 0
+WritesRun text lines end status out notes =
+    (IsWhole (ended_with text lines end) status out notes × EndsAs end status) ⊎ IsShort (ended_with text lines end) status out notes
 
 -- ---- the headline
 
 abbrev pub text_alone : List ℕ → Output
-text_alone text = record { text = text; status = Done }
+text_alone text = record { text = text; lines = None; status = Done }
 
 pub record IsRunAsMeant {words : List (List ℕ)} {given : Given} {places trace : Bool} (run : IsToRunSource words given places trace) (status : Status) (out notes : SinkSeen) : Type 0 where
   -- what the source means on objects that never move, over that input, under the plan's `go` lines and in so many steps
@@ -101,12 +101,13 @@ pub record IsRunAsMeant {words : List (List ℕ)} {given : Given} {places trace 
   -- the plan put the objects
   pub text : List ℕ
   pub shown : IsShownText (content_of text_forms.Source run.lines) run.plan places trace meant text
-  pub writes : WritesRun text meant.end status out notes
   -- the address machine runs the rewritten module, over its stack map and under all moves of the plan: it does the same, sees the same
   -- accesses, and never comes to a moved-away address or loses a frame
   pub moved : IsRunOnMachine (content_of text_forms.Source run.lines) run.input run.plan run.request.steps meant
   -- all those bytes are the text of its run, with trace and places
   pub machine_writes : RunWrites moved.after (map_of moved.after) run.input run.plan run.request.steps places trace moved.machine text
+  -- and were put line by line
+  pub writes : WritesRun text (lines_of_run machine_writes) meant.end status out notes
   -- of that rewritten module `rewrite` writes the text
   pub module_text : rewrite_work Text run.request.code given (Go (text_alone (text_of moved.after)))
   -- and `maps --raw` the bytes of the stack map, which are that map
@@ -128,12 +129,12 @@ pub record IsVerifiedRun {words : List (List ℕ)} {given : Given} {places trace
   -- is what was written
   pub text : List ℕ
   pub shown : IsShownText (content_of text_forms.Rewritten run.lines) run.plan places trace meant text
-  pub writes : WritesRun text meant.end status out notes
   -- and what the machine does over the module's stack map, under all moves of the plan
   pub machine : MachineOutcome
   pub seen : IsSeen (content_of text_forms.Rewritten run.lines) meant machine
   pub machine_writes : RunWrites (content_of text_forms.Rewritten run.lines) (map_of (content_of text_forms.Rewritten run.lines)) run.input run.plan run.request.steps places trace
       machine text
+  pub writes : WritesRun text (lines_of_run machine_writes) meant.end status out notes
 
 -- for every text of a rewritten module, whoever wrote it
 abbrev pub RunsVerified : List (List ℕ) → FilesSeen → (out notes : SinkSeen) → Status → Type 0

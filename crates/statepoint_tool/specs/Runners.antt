@@ -1,7 +1,5 @@
 -- What runs for a module that is asked for.
 use Rattle.std.specs.Prelude.{◌≡◌, true, false}
-use Rattle.std.specs.List.{All}
-use Rattle.ir_ast.specs.Bundles.{HasNoBundle}
 use Rattle.ir_ast.specs.Modules.{ModuleContent, LinedModule}
 use Rattle.ir_cfg.specs.SourceModules.{IsSourceModule}
 use Rattle.ir_cfg.specs.TargetModules.{IsTargetModule}
@@ -27,7 +25,6 @@ engine_of (Machine (Checked whole) map_file shows) = engines.Machine map_file fa
 
 pub record IsExecutable (content : ModuleContent) : Type 0 where
   pub target : IsTargetModule content
-  pub bundles : All HasNoBundle content.funcs
 
 -- the source module, or the rewritten one of a source module
 pub record IsOwn (content own : ModuleContent) : Type 0 where
@@ -36,7 +33,6 @@ pub record IsOwn (content own : ModuleContent) : Type 0 where
 
 pub record IsRewrittenOf (content after : ModuleContent) : Type 0 where
   pub source : IsSourceModule content
-  pub bundles : All HasNoBundle content.funcs
   pub rewritten : IsRewritten content after
   pub few : ¬ HasManyRelocates content
   pub executable : IsExecutable after

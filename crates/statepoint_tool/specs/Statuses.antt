@@ -1,7 +1,7 @@
 -- Each status, exactly where its cause holds, and what the call leaves on its sinks.
 use Rattle.std.specs.Prelude.{◌≡◌, ℕ, ⊤, ◌⊎◌, List, []}
 use Rattle.tool_io.specs.Counts.{Rose}
-use Rattle.statepoint_tool.specs.Answers.{SinkSeen, Gained, GainedFront, SinkFailed, IsBegun}
+use Rattle.statepoint_tool.specs.Answers.{SinkSeen, Gained, GainedFront, SinkFailed, IsBegun, PutByLine}
 use Rattle.statepoint_tool.specs.Causes.{Ends, EndsWith, NoCommand, HasSomeModuleFault, HasSomeInputFault, HasSomePlanFault, HasSomeMapFault, HasSomeCheckFault, CannotRead, IsTooLong, StopsBy}
 use Rattle.statepoint_tool.specs.Notes.{refusal_line, status_of_cause}
 use Rattle.statepoint_tool.specs.Steps.{Step, Go, Stop}
@@ -81,13 +81,18 @@ CauseOf _ = λ words given. ⊥
 abbrev pub WritesFront : List (List ℕ) → FilesSeen → SinkSeen → Type 0
 WritesFront words files out = Gained out [] ⊎ OverSome words files (λ given. IsBegun (Ends words given) out)
 
+-- the whole text of the work that ended so was written, a run's lines one by one
+abbrev pub WritesAll : Status → List (List ℕ) → FilesSeen → SinkSeen → Type 0
+WritesAll status words files out =
+    OverSome words files (λ given. (ends : EndsWith status words given) × Gained out ends.0.text × PutByLine ends.0.lines out)
+
 -- what is written to standard output: the whole text of the work where it came to its end, a front of it at want of
 -- memory and where a sink failed, and else nothing
 abbrev pub Writes : Status → List (List ℕ) → FilesSeen → SinkSeen → Type 0
-Writes Done words files out = OverSome words files (λ given. (ends : EndsWith Done words given) × Gained out ends.0.text)
-Writes Trapped words files out = OverSome words files (λ given. (ends : EndsWith Trapped words given) × Gained out ends.0.text)
-Writes OutOfSteps words files out = OverSome words files (λ given. (ends : EndsWith OutOfSteps words given) × Gained out ends.0.text)
-Writes Stray words files out = OverSome words files (λ given. (ends : EndsWith Stray words given) × Gained out ends.0.text)
+Writes Done words files out = WritesAll Done words files out
+Writes Trapped words files out = WritesAll Trapped words files out
+Writes OutOfSteps words files out = WritesAll OutOfSteps words files out
+Writes Stray words files out = WritesAll Stray words files out
 Writes WriteFault words files out = WritesFront words files out
 Writes WantOfMemory words files out = WritesFront words files out
 Writes _ words files out = Gained out []

@@ -2,7 +2,7 @@
 -- verified; to rewrite it, that of its rewritten module, or that one's stack map; to run it, the input is taken and read, then the plan, and it
 -- runs by the source meaning, or, a rewritten module, on the address machine over a stack map, its own or one that is taken. A generated
 -- module takes no file.
-use Rattle.std.specs.Prelude.{ℕ, ℤ, ⊤, Bool, true, false, codes, List, [], ◌++◌, Option, Some, None, Result, Ok, Err}
+use Rattle.std.specs.Prelude.{ℕ, ℤ, ⊤, Bool, true, false, codes, List, [], ◌∷◌, ◌++◌, Option, Some, None, Result, Ok, Err}
 use Rattle.ir_ast.specs.declared.modules.Form.{Form as TextForm}
 use Rattle.ir_ast.specs.declared.modules.Form.TheVariants as text_forms
 use Rattle.ir_ast.specs.Modules.{ModuleContent, LinedModule}
@@ -26,7 +26,8 @@ use Rattle.move_plan.specs.Inputs.{HasNoInputFault, IsFirstInputFault, IsInputOf
 use Rattle.move_plan.specs.PlanFaults.{HasNoFault as HasNoPlanFault}
 use Rattle.move_plan.specs.Plans.{IsPlanOf, go}
 use Rattle.machine_meaning.specs.MachineRuns.{MachineOutcome}
-use Rattle.run_texts.specs.RunTexts.{RunWritesQuiet}
+use Rattle.machine_meaning.specs.Code.{machinery_of}
+use Rattle.run_texts.specs.RunTexts.{RunWrites, run_lines}
 use Rattle.ir_machine.specs.declared.run.Shows.{Shows}
 use Rattle.generated_forms.specs.Modules.{generated}
 use Rattle.sp_ids.specs.declared.ends.End.{End}
@@ -51,9 +52,10 @@ use Rattle.tool_words.specs.declared.request.Command.TheVariants.{Show, Rewrite,
 use Rattle.statepoint_tool.specs.declared.status.Status.{Status}
 use Rattle.statepoint_tool.specs.declared.status.Status.TheVariants.{Done}
 
--- what the work writes to standard output, and the status that it then ends with
+-- what the work writes to standard output, by lines if it is a run's, and the status that it then ends with
 pub record Output : Type 0 where
   pub text : List ℕ
+  pub lines : Option (List (List ℕ))
   pub status : Status
 
 -- what each file gave, by what the command wants of it
@@ -153,7 +155,7 @@ pub data ReadingPlan (text : List ℕ) : Step (List PlanLine) → Type 0 where
 
 -- showing a module writes its text
 abbrev pub shown : ModuleContent → Output
-shown content = record { text = text_of content; status = Done }
+shown content = record { text = text_of content; lines = None; status = Done }
 
 abbrev pub show_phase : LinedModule → Step Output → Type 0
 show_phase whole = comes_to (Go (shown whole.content))
@@ -165,7 +167,7 @@ text_of_part MapText content = text_of_map (map_of content)
 text_of_part MapBytes content = map_bytes (map_of content)
 
 abbrev pub written_of : Part → ModuleContent → Output
-written_of part content = record { text = text_of_part part content; status = Done }
+written_of part content = record { text = text_of_part part content; lines = None; status = Done }
 
 abbrev pub after_rewriting : Part → ModuleContent → Step Output → Type 0
 after_rewriting part after = comes_to (Go (written_of part after))
@@ -175,7 +177,7 @@ rewrite_phase part whole = Then (Rewriting whole.content) (after_rewriting part)
 
 -- checking a module writes that it has no fault
 abbrev pub passed : Output
-passed = record { text = codes "ok\n"; status = Done }
+passed = record { text = codes "ok\n"; lines = None; status = Done }
 
 abbrev pub checked_phase : List ℕ → Step LinedModule → Type 0
 checked_phase text = Then (module_phase text_forms.Rewritten text) Judging
@@ -183,14 +185,19 @@ checked_phase text = Then (module_phase text_forms.Rewritten text) Judging
 abbrev pub after_check : LinedModule → Step Output → Type 0
 after_check whole = comes_to (Go passed)
 
--- a run writes this text, and so ends
-abbrev pub ended_with : List ℕ → End → Output
-ended_with text end = record { text = text; status = status_of_end end }
+-- a run is told of by this text, and so ends
+abbrev pub told_with : List ℕ → End → Output
+told_with text end = record { text = text; lines = None; status = status_of_end end }
+
+-- a run writes this text, by these lines, and so ends
+abbrev pub ended_with : List ℕ → List (List ℕ) → End → Output
+ended_with text lines end = record { text = text; lines = Some lines; status = status_of_end end }
 
 -- what a run by the source meaning writes that gives this outcome, and the status that it ends with
 abbrev pub output_of : ModuleContent → Outcome → Output
 output_of content outcome =
-    ended_with (whole_text outcome ++ closing_line content outcome.end outcome.func outcome.steps outcome.events) outcome.end
+    ended_with (whole_text outcome ++ closing_line content outcome.end outcome.func outcome.steps outcome.events)
+    (outcome.lines ++ closing_line content outcome.end outcome.func outcome.steps outcome.events ∷ []) outcome.end
 
 -- such a run writes what the source meaning says and ends as it does, over the input and under the `go` lines of the plan
 pub data Running (content : ModuleContent) (input : List ℤ) (plan : List PlanLine) (steps : ℕ) : Step Output → Type 0 where
@@ -206,18 +213,24 @@ abbrev pub map_phase : ModuleContent → Option (List ℕ) → Taken → Step St
 map_phase content None given = comes_to (Go (map_of content))
 map_phase content (Some name) given = file_phase name ReadingMap given
 
+-- the lines of a run on the machine that writes this text
+abbrev pub lines_of_run : {content : ModuleContent} {map : StackMap} {input : List ℤ} {plan : List PlanLine} {steps : ℕ} {places trace : Bool} {outcome : MachineOutcome} {text : List ℕ}
+    → RunWrites content map input plan steps places trace outcome text → List (List ℕ)
+lines_of_run {content} {map} {input} {plan} {steps} {places} {trace} {outcome} writes =
+    run_lines content (machinery_of content map plan steps) places trace input writes.gives.run.within outcome.end writes.gives.last.state
+
 -- a run on the machine writes the text of the machine's run, with its trace and its places where they are to be shown, and ends as
 -- it does, over the stack map, over the input and under the plan
 pub data Executing (content : ModuleContent) (input : List ℤ) (plan : List PlanLine) (steps : ℕ) (shows : Shows) (map : StackMap) : Step Output → Type 0 where
-  executes : (outcome : MachineOutcome) (text : List ℕ) → RunWritesQuiet content map input plan steps shows.places shows.trace outcome text
-      → Executing content input plan steps shows map (Go (ended_with text outcome.end))
+  executes : (outcome : MachineOutcome) (text : List ℕ) → (writes : RunWrites content map input plan steps shows.places shows.trace outcome text)
+      → Executing content input plan steps shows map (Go (ended_with text (lines_of_run writes) outcome.end))
 
 -- a run of the rewritten module of a source module, over its own stack map, writes the text of the machine's run of it, and ends as
 -- the source meaning says
 pub data RunningRewritten (content : ModuleContent) (input : List ℤ) (plan : List PlanLine) (steps : ℕ) (shows : Shows) : Step Output → Type 0 where
   comes_rewritten : (meant : Outcome) → SourceGives content input (go plan) steps meant → (after : ModuleContent) → IsRewritten content after
-      → (machine : MachineOutcome) (text : List ℕ) → RunWritesQuiet after (map_of after) input plan steps shows.places shows.trace machine text
-      → RunningRewritten content input plan steps shows (Go (ended_with text meant.end))
+      → (machine : MachineOutcome) (text : List ℕ) → (writes : RunWrites after (map_of after) input plan steps shows.places shows.trace machine text)
+      → RunningRewritten content input plan steps shows (Go (ended_with text (lines_of_run writes) meant.end))
 
 -- a source module runs by its meaning or is rewritten, a rewritten one runs on the machine
 abbrev pub run_phase : Engine → ModuleContent → List ℤ → List PlanLine → ℕ → Taken → Step Output → Type 0
@@ -232,7 +245,7 @@ run_phase (Machine map_file trust shows) content numbers lines steps given =
 -- summary, and the status is that of its end by the source meaning
 pub data Generating (seed size steps : ℕ) : Step Output → Type 0 where
   generates : (after : ModuleContent) → IsRewritten (generated seed size) after → (meant : Outcome) → SourceGives (generated seed size) [] (go flipping) steps meant
-      → Generating seed size steps (Go (ended_with (summary_of (generated seed size) after meant) meant.end))
+      → Generating seed size steps (Go (told_with (summary_of (generated seed size) after meant) meant.end))
 
 -- the order of work of `show`
 abbrev pub show_work : List ℕ → Given → Step Output → Type 0

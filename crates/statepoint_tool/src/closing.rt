@@ -1,8 +1,9 @@
 //! The line that closes a run, and the status of its end.
-ghost use Rattle.std.specs.Prelude.{◌≡◌, ◌≤◌, IfOk, OnOk, OnErr};
+ghost use Rattle.std.specs.Prelude.{◌≡◌, ◌≤◌, length, IfOk, OnOk, OnErr};
 ghost use Rattle.object_meaning.specs.Texts.{function_name};
 ghost use Rattle.tool_io.specs.Counts.{Rose};
 ghost use Rattle.tool_io.specs.Sink.{append_known, AppendsFront};
+ghost use Rattle.tool_io.specs.Told.{add_told};
 ghost use Rattle.statepoint_tool.specs.Closings.{closing_line, status_of_end};
 
 use crate::status::Status;
@@ -24,6 +25,7 @@ pub(crate) fn close<O: Sink>(
     ensures ok { IfOk result (λ status. status ≡ status_of_end end) }
     ensures written { OnOk result (O.written out.new ≡ append_known (O.written out.old) (closing_line code.now.content end func.0 steps events)) }
     ensures front { OnErr result (AppendsFront (O.written out.old) (O.written out.new) (closing_line code.now.content end func.0 steps events)) }
+    ensures by_one_put { length (closing_line code.now.content end func.0 steps events) ≤ 8192 → OnOk result (O.puts out.new ≡ add_told (O.puts out.old) (closing_line code.now.content end func.0 steps events)) }
     ensures failed { OnErr result (Rose (O.faults out.old) (O.faults out.new)) }
     ensures count { O.faults out.old ≤ O.faults out.new }
 {

@@ -1,5 +1,6 @@
 //! The command `gen`: a generated module is rewritten and runs, and a summary is written.
 ghost use Rattle.std.specs.Prelude.{◌≤◌};
+ghost use Rattle.piece_writer.specs.LinePuts.{told_by};
 ghost use Rattle.statepoint_tool.specs.Answers.{Came, sink_seen};
 ghost use Rattle.statepoint_tool.specs.Work.{Generating};
 
@@ -21,7 +22,7 @@ pub(crate) fn generate<O: Sink>(
     requires some { 1 ≤ size }
     requires few { size ≤ 1000 }
     ensures came { Came result (Generating seed size steps)
-        (sink_seen (O.written out.old) (O.written out.new) (O.faults out.old) (O.faults out.new)) }
+        (sink_seen (told_by O.written O.puts out.old) (told_by O.written O.puts out.new) (O.faults out.old) (O.faults out.new)) }
     ensures out_counted { O.faults out.old ≤ O.faults out.new }
 {
     let summary = summarize(alloc, seed, size, steps)?;

@@ -1,5 +1,6 @@
 //! Rewritten modules that are verified.
 ghost use Rattle.std.specs.Prelude.{◌≡◌, ◌≤◌, ◌∷◌, length, IfOk, [], OnOk};
+ghost use Rattle.piece_writer.specs.LinePuts.{told_by};
 ghost use Rattle.ir_cfg.specs.TargetModules.{IsTargetModule};
 ghost use Rattle.tool_io.specs.Counts.{NoneFell};
 ghost use Rattle.tool_io.specs.Takes.{TakesFirst};
@@ -27,7 +28,7 @@ pub(crate) fn check<F: Files, O: Sink>(
 ) -> Result<Status, Refusal>
     ensures works { Works (MayGiveShown (files_seen (F.contents files.old) (F.faults files.old) (F.faults files.new)) name)
         (check_work name) result
-        (sink_seen (O.written out.old) (O.written out.new) (O.faults out.old) (O.faults out.new)) }
+        (sink_seen (told_by O.written O.puts out.old) (told_by O.written O.puts out.new) (O.faults out.old) (O.faults out.new)) }
     ensures kept { F.contents files.new ≡ F.contents files.old }
     ensures counted { NoneFell (F.faults files.old) (F.faults files.new) }
     ensures takes_first { TakesFirst (name ∷ []) (F.taken files.old) (F.taken files.new) }
@@ -63,7 +64,7 @@ fn checked_in(alloc: Global, text: &[u8]) -> Result<Verified, Refusal>
 
 fn write_ok<O: Sink>(checked: &Verified, out: &mut O) -> Result<Status, Refusal>
     ensures came { Came result (after_check checked.now)
-        (sink_seen (O.written out.old) (O.written out.new) (O.faults out.old) (O.faults out.new)) }
+        (sink_seen (told_by O.written O.puts out.old) (told_by O.written O.puts out.new) (O.faults out.old) (O.faults out.new)) }
     ensures out_counted { O.faults out.old ≤ O.faults out.new }
 {
     match out.put(b"ok\n") {

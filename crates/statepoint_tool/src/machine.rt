@@ -1,10 +1,9 @@
 //! Runs of a rewritten module on the address machine, over its own stack map or over one that is taken.
 ghost use Rattle.std.specs.Prelude.{◌≡◌, ◌≤◌, ◌∷◌, IfOk, IsErrOf, [], OnOk};
-ghost use Rattle.std.specs.List.{All};
-ghost use Rattle.ir_ast.specs.Bundles.{HasNoBundle};
+ghost use Rattle.piece_writer.specs.LinePuts.{told_by};
 ghost use Rattle.ir_cfg.specs.TargetModules.{IsTargetModule};
 ghost use Rattle.stackmap_write.specs.ModuleMaps.{map_of};
-ghost use Rattle.ir_machine.specs.Answers.{IsRun, WritesFront};
+ghost use Rattle.ir_machine.specs.Answers.{IsRun, PutsRun, WritesFront};
 ghost use Rattle.map_bytes.specs.Faults.{IsFirstFault};
 ghost use Rattle.map_bytes.specs.declared.rules.MapFault.{MapFault};
 ghost use Rattle.tool_io.specs.Counts.{NoneFell, Rose};
@@ -19,11 +18,11 @@ ghost use Rattle.statepoint_tool.specs.Work.{Executing, MayGiveFile, ReadingMap,
 
 use crate::closing::status_of;
 use crate::job::Job;
-use crate::maps::map_of_module;
 use crate::phases::take;
 use crate::refusal::{Cause, Refusal};
 use crate::runner::Executable;
 use crate::status::Status;
+use gen_report::map_of_module;
 use ir_machine::{RunFault, SureFault, run_any, run_verified};
 use map_bytes::MapFault;
 use run_tasks::Ran;
@@ -43,10 +42,9 @@ pub(crate) fn run_on_machine<F: Files, O: Sink>(
     out: &mut O,
 ) -> Result<Status, Refusal>
     requires target { IsTargetModule (module_in «module».now).content }
-    requires no_bundle { All HasNoBundle (module_in «module».now).content.funcs }
     ensures works { Works (MayGiveFile (files_seen (F.contents files.old) (F.faults files.old) (F.faults files.new)) «map»)
         (λ given. Then (map_phase (module_in «module».now).content «map» given) (Executing (module_in «module».now).content job.now.input.now job.now.plan.now job.now.steps job.now.shows)) result
-        (sink_seen (O.written out.old) (O.written out.new) (O.faults out.old) (O.faults out.new)) }
+        (sink_seen (told_by O.written O.puts out.old) (told_by O.written O.puts out.new) (O.faults out.old) (O.faults out.new)) }
     ensures kept { F.contents files.new ≡ F.contents files.old }
     ensures counted { NoneFell (F.faults files.old) (F.faults files.new) }
     ensures takes_first { TakesFirst (file_named «map») (F.taken files.old) (F.taken files.new) }
@@ -67,9 +65,8 @@ fn run_over_own<O: Sink>(
     out: &mut O,
 ) -> Result<Status, Refusal>
     requires target { IsTargetModule (module_in «module».now).content }
-    requires no_bundle { All HasNoBundle (module_in «module».now).content.funcs }
     ensures came { Came result (Then (comes_to (Go (map_of (module_in «module».now).content))) (Executing (module_in «module».now).content job.now.input.now job.now.plan.now job.now.steps job.now.shows))
-        (sink_seen (O.written out.old) (O.written out.new) (O.faults out.old) (O.faults out.new)) }
+        (sink_seen (told_by O.written O.puts out.old) (told_by O.written O.puts out.new) (O.faults out.old) (O.faults out.new)) }
     ensures out_counted { O.faults out.old ≤ O.faults out.new }
 {
     let bytes = map_of_module(alloc, module.module())?;
@@ -87,7 +84,7 @@ fn run_over_file<F: Files, O: Sink>(
 ) -> Result<Status, Refusal>
     ensures works { Works (MayGive (files_seen (F.contents files.old) (F.faults files.old) (F.faults files.new)) name)
         (λ given. Then (file_phase name ReadingMap given) (Executing (module_in «module».now).content job.now.input.now job.now.plan.now job.now.steps job.now.shows)) result
-        (sink_seen (O.written out.old) (O.written out.new) (O.faults out.old) (O.faults out.new)) }
+        (sink_seen (told_by O.written O.puts out.old) (told_by O.written O.puts out.new) (O.faults out.old) (O.faults out.new)) }
     ensures kept { F.contents files.new ≡ F.contents files.old }
     ensures counted { NoneFell (F.faults files.old) (F.faults files.new) }
     ensures takes_first { TakesFirst (name ∷ []) (F.taken files.old) (F.taken files.new) }
@@ -107,7 +104,7 @@ fn run_over_bytes<O: Sink>(
     out: &mut O,
 ) -> Result<Status, Refusal>
     ensures came { Came result (Then (ReadingMap bytes.now) (Executing (module_in «module».now).content job.now.input.now job.now.plan.now job.now.steps job.now.shows))
-        (sink_seen (O.written out.old) (O.written out.new) (O.faults out.old) (O.faults out.new)) }
+        (sink_seen (told_by O.written O.puts out.old) (told_by O.written O.puts out.new) (O.faults out.old) (O.faults out.new)) }
     ensures out_counted { O.faults out.old ≤ O.faults out.new }
 {
     match run_bytes(alloc, module, bytes, job, out) {
@@ -130,6 +127,7 @@ fn run_bytes<O: Sink>(
     ensures bad { (fault : MapFault) → result ≡ Err (RunFault.BadMap fault) → IsFirstFault bytes.now fault × (O.written out.new ≡ O.written out.old) }
     ensures front { IsErrOf result RunFault.Memory → WritesFront (module_in «module».now).content bytes.now job.now.input.now job.now.plan.now job.now.steps job.now.shows (O.written out.old) (O.written out.new) }
     ensures write { IsErrOf result RunFault.Write → WritesFront (module_in «module».now).content bytes.now job.now.input.now job.now.plan.now job.now.steps job.now.shows (O.written out.old) (O.written out.new) }
+    ensures by_one_put { OnOk result (PutsRun (module_in «module».now).content bytes.now job.now.input.now job.now.plan.now job.now.steps job.now.shows (told_by O.written O.puts out.old) (told_by O.written O.puts out.new)) }
     ensures failed { IsErrOf result RunFault.Write → Rose (O.faults out.old) (O.faults out.new) }
     ensures count { O.faults out.old ≤ O.faults out.new }
 {
@@ -152,6 +150,7 @@ fn run_checked<O: Sink>(
     ensures bad { (fault : MapFault) → result ≡ Err (RunFault.BadMap fault) → IsFirstFault bytes.now fault × (O.written out.new ≡ O.written out.old) }
     ensures front { IsErrOf result RunFault.Memory → WritesFront verified.now.content bytes.now job.now.input.now job.now.plan.now job.now.steps job.now.shows (O.written out.old) (O.written out.new) }
     ensures write { IsErrOf result RunFault.Write → WritesFront verified.now.content bytes.now job.now.input.now job.now.plan.now job.now.steps job.now.shows (O.written out.old) (O.written out.new) }
+    ensures by_one_put { OnOk result (PutsRun verified.now.content bytes.now job.now.input.now job.now.plan.now job.now.steps job.now.shows (told_by O.written O.puts out.old) (told_by O.written O.puts out.new)) }
     ensures failed { IsErrOf result RunFault.Write → Rose (O.faults out.old) (O.faults out.new) }
     ensures count { O.faults out.old ≤ O.faults out.new }
 {

@@ -3,8 +3,6 @@ ghost use Rattle.std.specs.Prelude.{◌≡◌, ◌≤◌, ◌∷◌, ℕ, List, 
 ghost use Rattle.tool_io.specs.Counts.{NoneFell};
 ghost use Rattle.tool_io.specs.Takes.{TakesFirst};
 ghost use Rattle.tool_io.specs.Told.{append_told};
-ghost use Rattle.std.specs.List.{All};
-ghost use Rattle.ir_ast.specs.Bundles.{HasNoBundle};
 ghost use Rattle.ir_ast.specs.Formed.{IsFormedModule};
 ghost use Rattle.ir_cfg.specs.TypedModules.{IsModuleOf};
 ghost use Rattle.ir_lines.specs.Views.{seen_lines};
@@ -60,7 +58,6 @@ pub(crate) fn take_module<F: Files>(
         (module_phase form) (λ read. read) result }
     ensures formed { IfOk result (λ read. IsFormedModule read.content) }
     ensures of_form { IfOk result (λ read. IsModuleOf form read.content) }
-    ensures no_bundle { IfOk result (λ read. All HasNoBundle read.content.funcs) }
     ensures kept { F.contents files.new ≡ F.contents files.old }
     ensures counted { NoneFell (F.faults files.old) (F.faults files.new) }
     ensures takes_first { TakesFirst (name ∷ []) (F.taken files.old) (F.taken files.new) }
@@ -139,7 +136,6 @@ fn type_in(alloc: Global, form: Form, raw: Raw) -> Result<Module, Refusal>
     ensures typed { Agrees (λ read. read) result (Typing form (seen_lines raw.entry.lines)) }
     ensures formed { IfOk result (λ read. IsFormedModule read.content) }
     ensures of_form { IfOk result (λ read. IsModuleOf form read.content) }
-    ensures no_bundle { IfOk result (λ read. All HasNoBundle read.content.funcs) }
 {
     match type_as(alloc, form, raw) {
         Ok(read) => Ok(read),
@@ -155,7 +151,6 @@ fn type_as(alloc: Global, form: Form, raw: Raw) -> Result<Module, TypeFault>
     ensures answers { Answers form (seen_lines raw.entry.lines) result }
     ensures formed { IfOk result (λ whole. IsFormedModule whole.content) }
     ensures of_form { IfOk result (λ whole. IsModuleOf form whole.content) }
-    ensures no_bundle { IfOk result (λ whole. All HasNoBundle whole.content.funcs) }
 {
     match form {
         Form::Source => typed(alloc, raw),
@@ -169,7 +164,6 @@ pub(crate) fn module_in(alloc: Global, form: Form, text: &[u8]) -> Result<Module
     ensures read { Agrees (λ read. read) result (module_phase form text.now) }
     ensures formed { IfOk result (λ read. IsFormedModule read.content) }
     ensures of_form { IfOk result (λ read. IsModuleOf form read.content) }
-    ensures no_bundle { IfOk result (λ read. All HasNoBundle read.content.funcs) }
 {
     let raw = read_in(alloc, form, text)?;
     type_in(alloc, form, raw)

@@ -1,7 +1,6 @@
 //! The commands that write of a rewritten module.
 ghost use Rattle.std.specs.Prelude.{◌≡◌, ◌≤◌, ◌∷◌, IfOk, [], OnOk};
-ghost use Rattle.std.specs.List.{All};
-ghost use Rattle.ir_ast.specs.Bundles.{HasNoBundle};
+ghost use Rattle.piece_writer.specs.LinePuts.{told_by};
 ghost use Rattle.ir_ast.specs.Formed.{IsFormedModule};
 ghost use Rattle.ir_cfg.specs.SourceModules.{IsSourceModule};
 ghost use Rattle.ir_cfg.specs.TargetModules.{IsTargetModule};
@@ -36,7 +35,7 @@ pub(crate) fn rewrite<F: Files, O: Sink>(
 ) -> Result<Status, Refusal>
     ensures works { Works (MayGiveShown (files_seen (F.contents files.old) (F.faults files.old) (F.faults files.new)) name)
         (rewrite_work part name) result
-        (sink_seen (O.written out.old) (O.written out.new) (O.faults out.old) (O.faults out.new)) }
+        (sink_seen (told_by O.written O.puts out.old) (told_by O.written O.puts out.new) (O.faults out.old) (O.faults out.new)) }
     ensures kept { F.contents files.new ≡ F.contents files.old }
     ensures counted { NoneFell (F.faults files.old) (F.faults files.new) }
     ensures takes_first { TakesFirst (name ∷ []) (F.taken files.old) (F.taken files.new) }
@@ -54,9 +53,8 @@ fn rewrite_module<O: Sink>(
     out: &mut O,
 ) -> Result<Status, Refusal>
     requires source { IsSourceModule read.content }
-    requires no_bundle { All HasNoBundle read.content.funcs }
     ensures came { Came result (rewrite_phase part read)
-        (sink_seen (O.written out.old) (O.written out.new) (O.faults out.old) (O.faults out.new)) }
+        (sink_seen (told_by O.written O.puts out.old) (told_by O.written O.puts out.new) (O.faults out.old) (O.faults out.new)) }
     ensures out_counted { O.faults out.old ≤ O.faults out.new }
 {
     let after = rewritten(alloc, read)?;
@@ -73,9 +71,8 @@ fn write_part<O: Sink>(
 ) -> Result<Status, Refusal>
     requires formed { IsFormedModule after.now.content }
     requires target { IsTargetModule after.now.content }
-    requires no_bundle { All HasNoBundle after.now.content.funcs }
     ensures came { Came result (after_rewriting part after.now.content)
-        (sink_seen (O.written out.old) (O.written out.new) (O.faults out.old) (O.faults out.new)) }
+        (sink_seen (told_by O.written O.puts out.old) (told_by O.written O.puts out.new) (O.faults out.old) (O.faults out.new)) }
     ensures out_counted { O.faults out.old ≤ O.faults out.new }
 {
     match part {
@@ -88,13 +85,11 @@ fn write_part<O: Sink>(
 /// The rewritten module.
 pub(crate) fn rewritten(alloc: Global, read: Module) -> Result<Verified, Refusal>
     requires source { IsSourceModule read.content }
-    requires no_bundle { All HasNoBundle read.content.funcs }
     ensures rewrites { Agrees (λ after. after.content) result (Rewriting read.content) }
     ensures is { IfOk result (λ after. IsRewritten read.content after.content) }
     ensures few { IfOk result (λ after. ¬ HasManyRelocates read.content) }
     ensures formed { IfOk result (λ after. IsFormedModule after.content) }
     ensures target { IfOk result (λ after. IsTargetModule after.content) }
-    ensures no_bundle { IfOk result (λ after. All HasNoBundle after.content.funcs) }
 {
     match sp_rewrite::rewrite(alloc, read) {
         Ok(after) => Ok(after),

@@ -1,6 +1,7 @@
 //! The commands `source`, `run` and `exec`: the module, the input and the plan are taken in this order, then it runs, or its
 //! rewritten module does.
 ghost use Rattle.std.specs.Prelude.{◌≡◌, ◌≤◌, ◌∷◌, ℕ, IfOk, OnErr, IsErrOf, [], OnOk};
+ghost use Rattle.piece_writer.specs.LinePuts.{told_by};
 ghost use Rattle.ir_ast.specs.Modules.{ModuleContent};
 ghost use Rattle.ir_cfg.specs.SourceModules.{IsSourceModule};
 ghost use Rattle.tool_io.specs.Counts.{NoneFell, Rose};
@@ -38,7 +39,7 @@ pub(crate) fn run<F: Files, O: Sink>(
 ) -> Result<Status, Refusal>
     ensures works { Works (MayGiveAll (files_seen (F.contents files.old) (F.faults files.old) (F.faults files.new)) engine request)
         (run_work engine request) result
-        (sink_seen (O.written out.old) (O.written out.new) (O.faults out.old) (O.faults out.new)) }
+        (sink_seen (told_by O.written O.puts out.old) (told_by O.written O.puts out.new) (O.faults out.old) (O.faults out.new)) }
     ensures kept { F.contents files.new ≡ F.contents files.old }
     ensures counted { NoneFell (F.faults files.old) (F.faults files.new) }
     ensures takes_first { TakesFirst (files_of_run engine request) (F.taken files.old) (F.taken files.new) }
@@ -70,7 +71,7 @@ fn run_module<F: Files, O: Sink>(
     ensures works { (content : ModuleContent) → RunsAs content runner →
         Works (MayGiveFromInput (files_seen (F.contents files.old) (F.faults files.old) (F.faults files.new)) input plan (engine_of runner))
         (after_module input plan (engine_of runner) content steps) result
-        (sink_seen (O.written out.old) (O.written out.new) (O.faults out.old) (O.faults out.new)) }
+        (sink_seen (told_by O.written O.puts out.old) (told_by O.written O.puts out.new) (O.faults out.old) (O.faults out.new)) }
     ensures kept { F.contents files.new ≡ F.contents files.old }
     ensures counted { NoneFell (F.faults files.old) (F.faults files.new) }
     ensures takes_first { TakesFirst (input ∷ plan ∷ files_of_map (engine_of runner)) (F.taken files.old) (F.taken files.new) }
@@ -95,7 +96,7 @@ fn run_with_input<F: Files, O: Sink>(
     ensures works { (content : ModuleContent) → RunsAs content runner →
         Works (MayGiveFromPlan (files_seen (F.contents files.old) (F.faults files.old) (F.faults files.new)) plan (engine_of runner))
         (after_input plan (engine_of runner) content numbers.now steps) result
-        (sink_seen (O.written out.old) (O.written out.new) (O.faults out.old) (O.faults out.new)) }
+        (sink_seen (told_by O.written O.puts out.old) (told_by O.written O.puts out.new) (O.faults out.old) (O.faults out.new)) }
     ensures kept { F.contents files.new ≡ F.contents files.old }
     ensures counted { NoneFell (F.faults files.old) (F.faults files.new) }
     ensures takes_first { TakesFirst (plan ∷ files_of_map (engine_of runner)) (F.taken files.old) (F.taken files.new) }
@@ -125,7 +126,7 @@ fn run_under_plan<F: Files, O: Sink>(
     ensures works { (content : ModuleContent) → RunsAs content runner →
         Works (MayGiveMap (files_seen (F.contents files.old) (F.faults files.old) (F.faults files.new)) (engine_of runner))
         (run_phase (engine_of runner) content job.now.input.now job.now.plan.now job.now.steps) result
-        (sink_seen (O.written out.old) (O.written out.new) (O.faults out.old) (O.faults out.new)) }
+        (sink_seen (told_by O.written O.puts out.old) (told_by O.written O.puts out.new) (O.faults out.old) (O.faults out.new)) }
     ensures kept { F.contents files.new ≡ F.contents files.old }
     ensures counted { NoneFell (F.faults files.old) (F.faults files.new) }
     ensures takes_first { TakesFirst (files_of_map (engine_of runner)) (F.taken files.old) (F.taken files.new) }
@@ -152,7 +153,7 @@ fn run_by_meaning<O: Sink>(
 ) -> Result<Status, Refusal>
     requires source { IsSourceModule read.now.content }
     ensures came { Came result (Running read.now.content job.now.input.now job.now.plan.now job.now.steps)
-        (sink_seen (O.written out.old) (O.written out.new) (O.faults out.old) (O.faults out.new)) }
+        (sink_seen (told_by O.written O.puts out.old) (told_by O.written O.puts out.new) (O.faults out.old) (O.faults out.new)) }
     ensures out_counted { O.faults out.old ≤ O.faults out.new }
 {
     match write_run(alloc, read, job, out) {
@@ -171,9 +172,9 @@ fn write_run<O: Sink>(
 ) -> Result<Status, RefFault>
     requires source { IsSourceModule read.now.content }
     ensures done { IfOk result (λ status. IsDone status (Running read.now.content job.now.input.now job.now.plan.now job.now.steps)
-        (sink_seen (O.written out.old) (O.written out.new) (O.faults out.old) (O.faults out.new))) }
+        (sink_seen (told_by O.written O.puts out.old) (told_by O.written O.puts out.new) (O.faults out.old) (O.faults out.new))) }
     ensures begun { OnErr result (IsBegun (λ output. Running read.now.content job.now.input.now job.now.plan.now job.now.steps (Go output))
-        (sink_seen (O.written out.old) (O.written out.new) (O.faults out.old) (O.faults out.new))) }
+        (sink_seen (told_by O.written O.puts out.old) (told_by O.written O.puts out.new) (O.faults out.old) (O.faults out.new))) }
     ensures failed { IsErrOf result RefFault.Write → Rose (O.faults out.old) (O.faults out.new) }
     ensures out_counted { O.faults out.old ≤ O.faults out.new }
 {

@@ -1,7 +1,5 @@
 //! What runs for a module that is asked for: the module itself, or its rewritten module.
 ghost use Rattle.std.specs.Prelude.{◌≡◌, false, IfOk};
-ghost use Rattle.std.specs.List.{All};
-ghost use Rattle.ir_ast.specs.Bundles.{HasNoBundle};
 ghost use Rattle.ir_cfg.specs.SourceModules.{IsSourceModule};
 ghost use Rattle.ir_cfg.specs.TargetModules.{IsTargetModule};
 ghost use Rattle.ir_cfg.specs.TypedModules.{IsModuleOf};
@@ -78,7 +76,6 @@ impl Runner {
 /// the engine is the machine.
 pub(crate) fn runner_of(alloc: Global, engine: Engine, read: Module) -> Result<Runner, Refusal>
     requires of_form { IsModuleOf (form_of engine) read.content }
-    requires no_bundle { All HasNoBundle read.content.funcs }
     ensures judged { Agrees (λ _. read) result (judged engine read) }
     ensures engine { IfOk result (λ runner. engine_of runner ≡ engine) }
     ensures runs { IfOk result (λ runner. RunsAs read.content runner) }
@@ -97,7 +94,6 @@ fn rewriting_runner(
     shows: Shows,
 ) -> Result<Runner, Refusal>
     requires source { IsSourceModule read.content }
-    requires no_bundle { All HasNoBundle read.content.funcs }
     ensures judged { Agrees (λ _. read) result (judged (Engine.Rewriter «map» shows) read) }
     ensures engine { IfOk result (λ runner. engine_of runner ≡ Engine.Rewriter «map» shows) }
     ensures runs { IfOk result (λ runner. RunsAs read.content runner) }
@@ -118,7 +114,6 @@ fn machine_runner(
     shows: Shows,
 ) -> Result<Runner, Refusal>
     requires target { IsTargetModule read.content }
-    requires no_bundle { All HasNoBundle read.content.funcs }
     ensures judged { Agrees (λ _. read) result (judged (Engine.Machine «map» trust shows) read) }
     ensures engine { IfOk result (λ runner. engine_of runner ≡ Engine.Machine «map» trust shows) }
     ensures runs { IfOk result (λ runner. RunsAs read.content runner) }
@@ -141,7 +136,6 @@ fn checked_runner(
     shows: Shows,
 ) -> Result<Runner, Refusal>
     requires target { IsTargetModule read.content }
-    requires no_bundle { All HasNoBundle read.content.funcs }
     ensures judged { Agrees (λ _. read) result (judged (Engine.Machine «map» false shows) read) }
     ensures engine { IfOk result (λ runner. engine_of runner ≡ Engine.Machine «map» false shows) }
     ensures runs { IfOk result (λ runner. RunsAs read.content runner) }

@@ -1,5 +1,6 @@
 //! The command that writes the text of a module.
 ghost use Rattle.std.specs.Prelude.{◌≡◌, ◌≤◌, ◌∷◌, [], OnOk};
+ghost use Rattle.piece_writer.specs.LinePuts.{told_by};
 ghost use Rattle.ir_ast.specs.Formed.{IsFormedModule};
 ghost use Rattle.tool_io.specs.Counts.{NoneFell};
 ghost use Rattle.tool_io.specs.Takes.{TakesFirst};
@@ -27,7 +28,7 @@ pub(crate) fn show<F: Files, O: Sink>(
 ) -> Result<Status, Refusal>
     ensures works { Works (MayGiveShown (files_seen (F.contents files.old) (F.faults files.old) (F.faults files.new)) name)
         (show_work name) result
-        (sink_seen (O.written out.old) (O.written out.new) (O.faults out.old) (O.faults out.new)) }
+        (sink_seen (told_by O.written O.puts out.old) (told_by O.written O.puts out.new) (O.faults out.old) (O.faults out.new)) }
     ensures kept { F.contents files.new ≡ F.contents files.old }
     ensures counted { NoneFell (F.faults files.old) (F.faults files.new) }
     ensures takes_first { TakesFirst (name ∷ []) (F.taken files.old) (F.taken files.new) }
@@ -50,7 +51,7 @@ pub(crate) fn leave<T: Drop>(done: T) {
 pub(crate) fn show_module<O: Sink>(read: &Module, out: &mut O) -> Result<Status, Refusal>
     requires { IsFormedModule read.now.content }
     ensures came { Came result (show_phase read.now)
-        (sink_seen (O.written out.old) (O.written out.new) (O.faults out.old) (O.faults out.new)) }
+        (sink_seen (told_by O.written O.puts out.old) (told_by O.written O.puts out.new) (O.faults out.old) (O.faults out.new)) }
     ensures out_counted { O.faults out.old ≤ O.faults out.new }
 {
     match print(read, out) {

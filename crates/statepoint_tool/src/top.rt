@@ -1,5 +1,6 @@
 //! The top call.
 ghost use Rattle.std.specs.Prelude.{◌≡◌, ◌≤◌, Err, OnOk, map, string_bytes};
+ghost use Rattle.piece_writer.specs.LinePuts.{told_by};
 ghost use Rattle.tool_io.specs.Counts.{NoneFell};
 ghost use Rattle.tool_io.specs.Takes.{TakesFirst};
 ghost use Rattle.tool_io.specs.Told.{append_told};
@@ -54,8 +55,8 @@ pub fn statepoint<F: Files, O: Sink, E: Sink>(
 ) -> Status
     ensures facts { Facts (map string_bytes words.now)
         (files_seen (F.contents files.old) (F.faults files.old) (F.faults files.new))
-        (sink_seen (O.written out.old) (O.written out.new) (O.faults out.old) (O.faults out.new))
-        (sink_seen (E.written notes.old) (E.written notes.new) (E.faults notes.old) (E.faults notes.new))
+        (sink_seen (told_by O.written O.puts out.old) (told_by O.written O.puts out.new) (O.faults out.old) (O.faults out.new))
+        (sink_seen (told_by E.written E.puts notes.old) (told_by E.written E.puts notes.new) (E.faults notes.old) (E.faults notes.new))
         result }
     ensures takes { TakesNamed (map string_bytes words.now) (F.taken files.old) (F.taken files.new) result }
     ensures kept { F.contents files.new ≡ F.contents files.old }
@@ -73,8 +74,8 @@ fn answer<F: Files, O: Sink, E: Sink>(
 ) -> Status
     ensures answer { IsAnswer (map string_bytes words.now)
         (files_seen (F.contents files.old) (F.faults files.old) (F.faults files.new))
-        (sink_seen (O.written out.old) (O.written out.new) (O.faults out.old) (O.faults out.new))
-        (sink_seen (E.written notes.old) (E.written notes.new) (E.faults notes.old) (E.faults notes.new))
+        (sink_seen (told_by O.written O.puts out.old) (told_by O.written O.puts out.new) (O.faults out.old) (O.faults out.new))
+        (sink_seen (told_by E.written E.puts notes.old) (told_by E.written E.puts notes.new) (E.faults notes.old) (E.faults notes.new))
         result }
     ensures kept { F.contents files.new ≡ F.contents files.old }
     ensures counted { NoneFell (F.faults files.old) (F.faults files.new) }
@@ -95,7 +96,7 @@ fn work<F: Files, O: Sink>(
 ) -> Result<Status, Refusal>
     ensures works { Works (MayGiveNamed (files_seen (F.contents files.old) (F.faults files.old) (F.faults files.new)) (command_of (map string_bytes words.now)))
         (work_of (map string_bytes words.now)) result
-        (sink_seen (O.written out.old) (O.written out.new) (O.faults out.old) (O.faults out.new)) }
+        (sink_seen (told_by O.written O.puts out.old) (told_by O.written O.puts out.new) (O.faults out.old) (O.faults out.new)) }
     ensures kept { F.contents files.new ≡ F.contents files.old }
     ensures counted { NoneFell (F.faults files.old) (F.faults files.new) }
     ensures takes_first { TakesFirst (files_named (map string_bytes words.now)) (F.taken files.old) (F.taken files.new) }
@@ -145,7 +146,7 @@ fn work<F: Files, O: Sink>(
 // The status, once standard error has the line of a refusal.
 fn tell<E: Sink>(ended: Result<Status, Refusal>, notes: &mut E) -> Status
     ensures told { IsTold ended result
-        (sink_seen (E.written notes.old) (E.written notes.new) (E.faults notes.old) (E.faults notes.new)) }
+        (sink_seen (told_by E.written E.puts notes.old) (told_by E.written E.puts notes.new) (E.faults notes.old) (E.faults notes.new)) }
     ensures notes_counted { E.faults notes.old ≤ E.faults notes.new }
 {
     match ended {
@@ -156,7 +157,7 @@ fn tell<E: Sink>(ended: Result<Status, Refusal>, notes: &mut E) -> Status
 
 fn say<E: Sink>(refusal: &Refusal, notes: &mut E) -> Status
     ensures told { IsTold (Err refusal.now) result
-        (sink_seen (E.written notes.old) (E.written notes.new) (E.faults notes.old) (E.faults notes.new)) }
+        (sink_seen (told_by E.written E.puts notes.old) (told_by E.written E.puts notes.new) (E.faults notes.old) (E.faults notes.new)) }
     ensures notes_counted { E.faults notes.old ≤ E.faults notes.new }
 {
     match put_note(refusal, notes) {

@@ -1,9 +1,7 @@
 //! A run of a text's module.
 
 ghost use Rattle.std.specs.Prelude.{◌≤◌, length, vec_len, IfOk};
-ghost use Rattle.std.specs.List.{All};
 ghost use Rattle.sp_ids.specs.declared.limits.TheConstants.{FILE_BYTES};
-ghost use Rattle.ir_ast.specs.Bundles.{HasNoBundle};
 ghost use Rattle.ir_cfg.specs.TargetModules.{IsTargetModule};
 
 use anyhow::{Result, bail};
@@ -51,8 +49,7 @@ fn run(
     steps: u64,
     shows: Shows,
 ) -> Result<()>
-    requires target { IsTargetModule whole.now.content }
-    requires no_bundle { All HasNoBundle whole.now.content.funcs }
+    requires { IsTargetModule whole.now.content }
 {
     let alloc = rt.alloc();
     let layouts = Layouts::of(alloc, whole)?;

@@ -5,7 +5,8 @@ ghost use Rattle.sp_ids.specs.declared.limits.TheConstants.{FILE_BYTES};
 
 use crate::bases::Bases;
 use crate::found::{
-    found_at, found_entry, lent_and_changed, shown_cuts, shown_functions, shown_records, shown_view,
+    found_at, found_entry, lent_and_changed, listed_by, shown_cuts, shown_functions, shown_records,
+    shown_view,
 };
 use crate::words::{cut, hexadecimal, number};
 use case_files::{CaseLine, Part, Refusal, case_lines, parts_in, rows_in, three_cells};
@@ -21,6 +22,7 @@ pub(crate) enum Asked {
     Entry(u64),
     Find(u64),
     Lend(u64),
+    Listed(u64),
 }
 
 /// A case.
@@ -100,6 +102,7 @@ impl<'a> Case<'a> {
             Asked::Entry(index) => found_entry(alloc, &bytes, index),
             Asked::Find(address) => found_at(alloc, &bytes, address),
             Asked::Lend(address) => lent_and_changed(alloc, &mut bytes, address),
+            Asked::Listed(index) => listed_by(alloc, &bytes, index),
         }
     }
 }
@@ -121,6 +124,7 @@ fn asked_at(words: &str) -> Option<Asked> {
         "entry" => Some(Asked::Entry(place)),
         "find" => Some(Asked::Find(place)),
         "lend" => Some(Asked::Lend(place)),
+        "listed" => Some(Asked::Listed(place)),
         _ => None,
     }
 }

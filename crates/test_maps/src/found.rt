@@ -75,6 +75,25 @@ pub(crate) fn found_entry(alloc: Global, bytes: &[u8], index: u64) -> Result<Str
     }
 }
 
+// The numbers that a record's locations name in its map's list of constants.
+pub(crate) fn listed_by(alloc: Global, bytes: &[u8], index: u64) -> Result<String, AllocError> {
+    let mut shown = String::new(alloc);
+    if let Ok(view) = MapView::of(bytes) {
+        if let Some(record) = view.entry(u32::try_from(index).unwrap_or(u32::MAX)) {
+            for index in 0..record.places() {
+                let place = record.place(index);
+                let at = place.offset.cast_unsigned();
+                if place.kind == 5 && at < view.constants() {
+                    let number = record.constant(at);
+                    separate(&mut shown)?;
+                    write!(shown, "{number}")?;
+                }
+            }
+        }
+    }
+    Ok(shown)
+}
+
 // The first record with a return address, by the view and by an index, and what is lent outlives the view.
 pub(crate) fn found_at(alloc: Global, bytes: &[u8], address: u64) -> Result<String, AllocError> {
     let found = record_at(bytes, address);

@@ -1,4 +1,6 @@
 pub mod BaseLemmas
 pub mod LineLemmas
+pub mod NameLemmas
 mod Samples
+pub mod StandLemmas
 pub mod ValueLemmas

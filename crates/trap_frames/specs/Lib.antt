@@ -1,3 +1,4 @@
 pub mod Bases
 pub mod DeoptLines
+pub mod Spans
 pub mod Waiting

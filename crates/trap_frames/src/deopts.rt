@@ -35,7 +35,7 @@ impl Piece for Shown {
 
 /// Puts the line of a frame that waits, by its number, from 1 for the caller of the running one, with its function's name and
 /// the values that its call carries. After `Failed`, which comes only where the sink's count of faults rose, a front of the
-/// line was added. A line of at most 8,192 bytes is put by one call.
+/// line was added. A line of at most 8,192 bytes is put by one call, also where that call fails.
 #[tactic(auto, unfolding(crate::specs::DeoptLines::deopt_line))]
 pub fn deopt_line<O: Sink>(
     frame: u32,
@@ -48,6 +48,7 @@ pub fn deopt_line<O: Sink>(
     ensures failed { OnErr result (Rose (O.faults out.old) (O.faults out.new)) }
     ensures count { O.faults out.old ≤ O.faults out.new }
     ensures by_one_put { length (deopt_line frame func.now values.now) ≤ 8192 → OnOk result (O.puts out.new ≡ add_told (O.puts out.old) (deopt_line frame func.now values.now)) }
+    ensures unput { length (deopt_line frame func.now values.now) ≤ 8192 → OnErr result (O.puts out.new ≡ O.puts out.old) }
 {
     let values = Led {
         separator: b" ",

@@ -4,9 +4,12 @@
 mod asked;
 mod bases;
 mod deopts;
+mod heaps;
 mod lines;
+mod modules;
 mod values;
 
 pub use asked::{Functions, Objects};
 pub use deopts::{Shown, deopt_line};
-pub use lines::{Stopped, write_waiting};
+pub use heaps::Standing;
+pub use lines::write_waiting;

@@ -1,53 +1,24 @@
 //! The lines of the frames that wait.
 
-ghost use Rattle.std.specs.Prelude.{◌≡◌, ◌+◌, ◌<◌, ◌≤◌, length, map as each, OnOk, OnErr, IsErrOf};
-ghost use Rattle.std.specs.List.{concat};
+ghost use Rattle.std.specs.Prelude.{◌≡◌, ◌+◌, ◌≤◌, length, OnOk, OnErr, IsErrOf};
+ghost use Rattle.std.specs.List.{All, concat};
 ghost use Rattle.tool_io.specs.Counts.{Rose};
 ghost use Rattle.tool_io.specs.Sink.{append_known, AppendsFront};
-ghost use Rattle.frame_walk.specs.Maps.{deopt_count, deopt_places, pairs_of};
+ghost use Rattle.piece_writer.specs.LinePuts.{IsShort, PutsFirst, PutsLines, told_by};
+ghost use Rattle.frame_walk.specs.Maps.{deopt_count};
 ghost use Rattle.machine_meaning.specs.Machines.{Machinery};
-ghost use Rattle.machine_meaning.specs.TrapLines.{frame_line, shown_at};
-ghost use Rattle.trap_frames.specs.Waiting.{IsReadBy, waiting_text};
+ghost use Rattle.machine_meaning.specs.TrapLines.{waiting_lines};
+ghost use Rattle.run_traces.specs.declared.writing.Stopped.{Stopped};
+ghost use Rattle.trap_frames.specs.Waiting.{IsReadBy, line_with, waiting_text};
 
 use crate::asked::{Functions, Objects};
 use crate::bases::fill_bases;
 use crate::deopts::{Shown, deopt_line};
 use crate::values::fill_values;
 use frame_walk::{FrameMap, FrameRecord, Stack};
-use sp_ids::Memory;
+use run_traces::Stopped;
 use std::alloc::Global;
-use tool_io::{Failed, Sink};
-
-/// Why the lines ended early.
-#[derive(Clone, Copy, Debug, PartialEq, Eq)]
-pub enum Stopped {
-    /// Memory that was wanted and could not be had.
-    Memory,
-    /// The sink failed.
-    Write,
-}
-
-impl From<Memory> for Stopped {
-    ghost use Rattle.std.specs.Prelude.{◌≡◌};
-    ghost use Rattle.trap_frames.specs.declared.lines.Stopped.TheVariants as stops;
-
-    ghost from_gives = { λ _ e. e ≡ stops.Memory };
-
-    fn from(_error: Memory) -> Stopped {
-        Stopped::Memory
-    }
-}
-
-impl From<Failed> for Stopped {
-    ghost use Rattle.std.specs.Prelude.{◌≡◌};
-    ghost use Rattle.trap_frames.specs.declared.lines.Stopped.TheVariants as stops;
-
-    ghost from_gives = { λ _ e. e ≡ stops.Write };
-
-    fn from(_error: Failed) -> Stopped {
-        Stopped::Write
-    }
-}
+use tool_io::Sink;
 
 // Room for what a frame shows.
 #[derive(Drop)]
@@ -60,7 +31,8 @@ struct Room {
 /// whose record has "deopt" locations, with its number, from 1, its function and the values there. They end at the return
 /// address 0, at one without a usable record, and at one that is in no function.
 ///
-/// After an error a front of the lines was added; `Write` comes only where the sink's count of faults rose.
+/// A stack of at most so many words has no frame that waits. After an error a front of the lines was added; `Write` comes only
+/// where the sink's count of faults rose. Where none has more than 8,192 bytes, each line is put by one call.
 pub fn write_waiting<M: FrameMap, H: Objects, F: Functions, O: Sink>(
     alloc: Global,
     map: &M,
@@ -70,14 +42,18 @@ pub fn write_waiting<M: FrameMap, H: Objects, F: Functions, O: Sink>(
     functions: &F,
     out: &mut O,
 ) -> Result<(), Stopped>
-    requires { own < length stack.now }
     ensures ok { (machinery : Machinery) → IsReadBy (M.found map.now) (M.constants map.now) (F.names functions.now) machinery → OnOk result (O.written out.new ≡ append_known (O.written out.old) (waiting_text machinery (H.stands objects.now) own stack.now)) }
     ensures err { (machinery : Machinery) → IsReadBy (M.found map.now) (M.constants map.now) (F.names functions.now) machinery → OnErr result (AppendsFront (O.written out.old) (O.written out.new) (waiting_text machinery (H.stands objects.now) own stack.now)) }
+    ensures by_one_put { (machinery : Machinery) → IsReadBy (M.found map.now) (M.constants map.now) (F.names functions.now) machinery → All IsShort (waiting_lines machinery (H.stands objects.now) own stack.now) → OnOk result (PutsLines (told_by O.written O.puts out.old) (told_by O.written O.puts out.new) (waiting_lines machinery (H.stands objects.now) own stack.now)) }
+    ensures cut { (machinery : Machinery) → IsReadBy (M.found map.now) (M.constants map.now) (F.names functions.now) machinery → All IsShort (waiting_lines machinery (H.stands objects.now) own stack.now) → OnErr result (PutsFirst (told_by O.written O.puts out.old) (told_by O.written O.puts out.new) (waiting_lines machinery (H.stands objects.now) own stack.now)) }
     ensures failed { IsErrOf result Stopped.Write → Rose (O.faults out.old) (O.faults out.new) }
     ensures count { O.faults out.old ≤ O.faults out.new }
 {
     if stack.len() > u32::MAX as usize {
         return Err(Stopped::Memory);
+    }
+    if own as usize >= stack.len() {
+        return Ok(());
     }
     let mut room = Room {
         bases: Vec::new(alloc),
@@ -109,8 +85,10 @@ fn write_frame<M: FrameMap, R: FrameRecord, H: Objects, O: Sink>(
     out: &mut O,
 ) -> Result<(), Stopped>
     requires { 3 + deopt_count (R.entry one.now).places ≤ length (R.entry one.now).places }
-    ensures ok { OnOk result (O.written out.new ≡ append_known (O.written out.old) (concat (frame_line number name.now (each (shown_at (M.constants map.now) (H.stands objects.now) words.now (pairs_of (R.entry one.now))) (deopt_places (R.entry one.now)))))) }
-    ensures err { OnErr result (AppendsFront (O.written out.old) (O.written out.new) (concat (frame_line number name.now (each (shown_at (M.constants map.now) (H.stands objects.now) words.now (pairs_of (R.entry one.now))) (deopt_places (R.entry one.now)))))) }
+    ensures ok { OnOk result (O.written out.new ≡ append_known (O.written out.old) (concat (line_with (M.constants map.now) (H.stands objects.now) words.now (R.entry one.now) number name.now))) }
+    ensures err { OnErr result (AppendsFront (O.written out.old) (O.written out.new) (concat (line_with (M.constants map.now) (H.stands objects.now) words.now (R.entry one.now) number name.now))) }
+    ensures by_one_put { All IsShort (line_with (M.constants map.now) (H.stands objects.now) words.now (R.entry one.now) number name.now) → OnOk result (PutsLines (told_by O.written O.puts out.old) (told_by O.written O.puts out.new) (line_with (M.constants map.now) (H.stands objects.now) words.now (R.entry one.now) number name.now)) }
+    ensures cut { All IsShort (line_with (M.constants map.now) (H.stands objects.now) words.now (R.entry one.now) number name.now) → OnErr result (PutsFirst (told_by O.written O.puts out.old) (told_by O.written O.puts out.new) (line_with (M.constants map.now) (H.stands objects.now) words.now (R.entry one.now) number name.now)) }
     ensures failed { IsErrOf result Stopped.Write → Rose (O.faults out.old) (O.faults out.new) }
     ensures count { O.faults out.old ≤ O.faults out.new }
 {

@@ -1,27 +1,23 @@
 -- The objects of a run stand where its events and its plan put them.
-use Rattle.std.proofs.Common.{◌≡◌, ℕ, zero, suc, ℤ, List, [], ◌∷◌, ◌++◌, map, refl, sym, ap, subst, ◌∙◌, append-nil, append_assoc}
+use Rattle.std.proofs.Common.{◌≡◌, ℕ, zero, suc, List, [], ◌∷◌, ◌++◌, map, refl, sym, ap, subst, ◌∙◌, append-nil, append_assoc}
 use Rattle.std.proofs.lemmas.List.{map-append}
 use Rattle.sp_ids.specs.declared.ends.End.{End}
 use Rattle.sp_ids.specs.declared.ends.End.TheVariants.{LostFrame}
 use Rattle.ir_ast.specs.declared.ops.Op.{Op}
 use Rattle.ir_ast.specs.declared.ops.Op.TheVariants.{Call, Statepoint}
-use Rattle.ir_ast.specs.Modules.{ModuleContent}
-use Rattle.move_plan.specs.declared.plan_lines.PlanLine.{PlanLine}
-use Rattle.move_plan.specs.declared.plan_lines.Move.{Move}
-use Rattle.map_bytes.specs.Maps.{StackMap}
 use Rattle.moving_heap.specs.declared.stands.Moved.{Moved}
 use Rattle.moving_heap.specs.declared.stands.Stand.{Stand}
 use Rattle.moving_heap.specs.declared.stands.Verdict.{Verdict}
 use Rattle.moving_heap.specs.Places.{carried, new_stand, verdict}
 use Rattle.object_meaning.specs.Effects.{Effect, Progress, goes_on, prints, ends, after}
 use Rattle.object_meaning.specs.Lines.{Line}
-use Rattle.object_meaning.specs.Runs.{Next, Go, End as Over, goes, advance}
-use Rattle.object_meaning.specs.Traces.{Event, at_poll, at_new, event_at, event_of, events_at, done_at, traced}
+use Rattle.object_meaning.specs.Runs.{Next, Go, End as Over, goes}
+use Rattle.object_meaning.specs.Traces.{Event, at_poll, at_new, event_at, event_of, events_at, traced}
 use Rattle.object_meaning.proofs.RunLaws.{goes_over, traced_over}
 use Rattle.machine_meaning.specs.Code.{machinery_of}
 use Rattle.machine_meaning.specs.EventPlaces.{MovePlan, Occasion, made_at, makes, moved_at, polls, stands_at_event, flip_of}
 use Rattle.machine_meaning.specs.Happenings.{Happening, happening, happening_by, happenings_at}
-use Rattle.machine_meaning.specs.MachineRuns.{MachineOutcome, MachineGives, MachineryGives, machine_opening, machine_outcome, machine_proceeds}
+use Rattle.machine_meaning.specs.MachineRuns.{MachineOutcome, machine_opening, machine_outcome, machine_proceeds}
 use Rattle.machine_meaning.specs.MachineSteps.{machine_step}
 use Rattle.machine_meaning.specs.Machines.{Machine, Machinery, spilled}
 use Rattle.machine_meaning.specs.Moving.{verdict_at}

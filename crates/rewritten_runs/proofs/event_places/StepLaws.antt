@@ -1,6 +1,6 @@
 -- What a step of the machine does to places: nothing but at an event, and there what the plan says.
 use Rattle.std.proofs.Common.{◌≡◌, ℕ, Bool, true, false, List, [], ◌∷◌, map, refl, sym, ap, ◌∙◌, cond, Option, Some, None, Result, Ok, Err, ℤ}
-use Rattle.std.specs.Prelude.{zero, ◌+◌, unsigned_abs, slice_get, nat_lt, length, take, drop}
+use Rattle.std.specs.Prelude.{◌+◌, unsigned_abs, slice_get, nat_lt, length, drop}
 use Rattle.sp_ids.specs.declared.ends.End.{End}
 use Rattle.sp_ids.specs.declared.ends.End.TheVariants.{LostFrame, OutOfSteps, Trap as Traps}
 use Rattle.sp_ids.specs.declared.ends.Trap.{Trap}
@@ -26,7 +26,7 @@ use Rattle.object_meaning.specs.Effects.{Effect, goes_on, prints, ends}
 use Rattle.object_meaning.specs.Lines.{Line}
 use Rattle.object_meaning.specs.States.{Frame, State, Setting}
 use Rattle.object_meaning.specs.Computing.{value_of_line}
-use Rattle.object_meaning.specs.Calls.{called, entering, function_in, stepped}
+use Rattle.object_meaning.specs.Calls.{entering, function_in, stepped}
 use Rattle.object_meaning.specs.Frames.{entered}
 use Rattle.object_meaning.specs.Jumps.{branch_taken, case_taken, jumped, label_at}
 use Rattle.object_meaning.specs.Numbers.{width_of}
@@ -36,7 +36,7 @@ use Rattle.object_meaning.specs.Tasks.{started, with_event}
 use Rattle.object_meaning.specs.Traces.{Event, at_poll, at_new, event_at, event_of, events_at}
 use Rattle.machine_meaning.specs.EventPlaces.{MovePlan, Occasion, made_at, makes, moved_at, polls, stands_at_event}
 use Rattle.tool_io.specs.Counts.{raised}
-use Rattle.machine_meaning.specs.Machines.{Machine, Machinery, gone_on, lifted, then_on}
+use Rattle.machine_meaning.specs.Machines.{Machine, Machinery, lifted, then_on}
 use Rattle.machine_meaning.specs.Moving.{after_walk, eventful, moved_by, moves_due, walked_all}
 use Rattle.machine_meaning.specs.MachineTasks.{allocated_machine, allocating_machine, handed_machine, polled_machine, switched_machine}
 use Rattle.machine_meaning.specs.MachineSteps.{behind_step, calls, checking, denied, loading_word, machine_acts, machine_at, machine_step, returns, storing_word}

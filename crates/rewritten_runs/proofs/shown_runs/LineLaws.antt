@@ -1,6 +1,6 @@
--- The lines of a trace begin with `#`, and those that a program prints don't.
-use Rattle.std.proofs.Common.{◌≡◌, ℕ, ℤ, zero, suc, pos, negsuc, Bool, true, false, List, [], ◌∷◌, ◌++◌, map, reverse, cond, refl, sym, ap, ◌∙◌, append_assoc, append-nil, arith}
-use Rattle.std.specs.Prelude.{◌+◌, ◌==◌, ◌/◌, ◌%◌, nat_lt, not, filter}
+-- The lines of a trace begin with `#`, and those that a program prints or its waiting frames show don't.
+use Rattle.std.proofs.Common.{◌≡◌, ℕ, ℤ, zero, suc, pos, negsuc, Bool, true, false, List, [], ◌∷◌, ◌++◌, length, map, take, drop, slice_index, reverse, cond, Option, Some, None, refl, sym, ap, ◌∙◌, append_assoc, append-nil, arith}
+use Rattle.std.specs.Prelude.{◌+◌, ◌==◌, ◌/◌, ◌%◌, nat_lt, not}
 use Rattle.std.specs.Fmt.{digits, digits_onto, digit_glyph, signed_decimal}
 use Rattle.std.specs.List.{flat_map}
 use Rattle.std.proofs.lemmas.Bool.Decides.{nat_tests}
@@ -8,15 +8,21 @@ use Rattle.std.proofs.lemmas.List.{reverse-append}
 use Rattle.std.proofs.lemmas.List.Elements.{filter-append}
 use Rattle.sp_ids.specs.Numbers.{signed}
 use Rattle.sp_ids.specs.declared.ends.End.{End}
+use Rattle.sp_ids.specs.declared.ends.End.TheVariants.{Trap}
+use Rattle.moving_heap.specs.declared.stands.Stand.{Stand}
+use Rattle.frame_walk.specs.Maps.{FrameEntry, usable}
+use Rattle.frame_walk.specs.Walks.{frame_words}
 use Rattle.object_meaning.specs.Effects.{Effect, goes_on, prints, ends, Progress, after, newline, printed_line}
 use Rattle.object_meaning.specs.Runs.{Next, Go, End as Over, advance, goes}
 use Rattle.object_meaning.specs.Tasks.{with_event}
 use Rattle.object_meaning.specs.Traces.{done_at, traced}
-use Rattle.object_meaning.proofs.RunLaws.{goes_over, not_over, same_over, traced_over}
+use Rattle.object_meaning.proofs.RunLaws.{goes_over, not_over, traced_over}
 use Rattle.machine_meaning.specs.Happenings.{Happening, ObjectMove, SlotChange, happenings_at}
 use Rattle.machine_meaning.specs.Machines.{Machine, Machinery}
 use Rattle.machine_meaning.specs.MachineRuns.{machine_proceeds}
 use Rattle.machine_meaning.specs.MachineSteps.{machine_step}
+use Rattle.machine_meaning.specs.TrapLines.{closing_of, frame_line, lines_at, lines_with, values_of}
+use Rattle.machine_meaning.specs.TrapLines.{lines_from as frames_from}
 use Rattle.tool_report.specs.RunLines.{event_line, moved_line, slot_line}
 use Rattle.run_texts.specs.RunTexts.{event_lines, line_of_move, line_of_slot, lines_from, printed_by, step_lines, trace_lines}
 use Rattle.rewritten_runs.specs.ShownTexts.{is_traced, program_lines}
@@ -131,3 +137,48 @@ pub prints_from : (machinery : Machinery) (count : ℕ) (now : Progress Machine)
 unfolding machine_proceeds
 prints_from machinery zero now end last is = absurd (not_over end last now (sym is))
 prints_from machinery (suc count) now end last is = prints_all machinery count now.lines (machine_step machinery now.state) end last is
+
+-- ---- what waiting frames show
+
+abbrev Kept : List (List ℕ) → Type 0
+Kept lines = program_lines lines ≡ lines
+
+both_kept : (front back : List (List ℕ)) → Kept front → Kept back → Kept (front ++ back)
+both_kept front back one two =
+    filter-append (λ (line : List ℕ). not (is_traced line)) front back
+    ∙ (ap (λ (lines : List (List ℕ)). lines ++ program_lines back) one ∙ ap (λ (lines : List (List ℕ)). front ++ lines) two)
+
+either_kept : (b : Bool) (one other : List (List ℕ)) → Kept one → Kept other → Kept (cond b one other)
+either_kept true one other first second = first
+either_kept false one other first second = second
+
+frame_kept : (number : ℕ) (name : List ℕ) (values : List (List ℕ)) → Kept (frame_line number name values)
+frame_kept number name [] = refl
+frame_kept number name (value ∷ values) = refl
+
+module _ (machinery : Machinery) (stands : List Stand) where
+  module _ (number : ℕ) (stack : List ℕ) (below : ℕ → List ℕ → List (List ℕ)) (kept : (next : ℕ) (rest : List ℕ) → Kept (below next rest)) where
+    with_kept : (one : FrameEntry) (name : Option (List ℕ)) → Kept (lines_with machinery stands number stack below one name)
+    with_kept one None = refl
+    with_kept one (Some name) =
+        let values = values_of machinery stands (take (frame_words one) stack) one in
+        let next = slice_index stack (frame_words one) in let rest = drop (frame_words one + 1) stack in
+        both_kept (frame_line number name values) (below next rest) (frame_kept number name values) (kept next rest)
+
+    at_kept : (address : ℕ) (found : Option FrameEntry) → Kept (lines_at machinery stands number address stack below found)
+    at_kept address None = refl
+    at_kept address (Some one) =
+        either_kept (usable (length stack) one) (lines_with machinery stands number stack below one (machinery.name_at address)) [] (with_kept one (machinery.name_at address)) refl
+
+  frames_kept : (fuel number address : ℕ) (stack : List ℕ) → Kept (frames_from fuel machinery stands number address stack)
+  frames_kept zero number address stack = refl
+  frames_kept (suc fuel) number address stack =
+      let below = λ (next : ℕ) (rest : List ℕ). frames_from fuel machinery stands (number + 1) next rest in
+      either_kept (address == 0) [] (lines_at machinery stands number address stack below (machinery.found address)) refl
+      (at_kept number stack below (λ next rest. frames_kept fuel (number + 1) next rest) address (machinery.found address))
+
+pub closing_kept : (machinery : Machinery) (end : End) (last : Machine) → Kept (closing_of machinery end last)
+closing_kept machinery (Trap trap) last =
+    let own = machinery.frame_words last.state.running.func in
+    frames_kept machinery last.heap.stands (length last.stack) 1 (slice_index last.stack own) (drop (own + 1) last.stack)
+closing_kept machinery _ last = refl

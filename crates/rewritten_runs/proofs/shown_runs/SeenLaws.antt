@@ -1,33 +1,26 @@
 -- Runs over a module's own stack map, as the meaning on objects has them.
-use Rattle.std.proofs.Common.{◌≡◌, ℕ, ℤ, zero, suc, Bool, true, false, List, [], ◌∷◌, ◌++◌, map, length, Some, refl, sym, ap, subst, ◌∙◌, arith}
+use Rattle.std.proofs.Common.{◌≡◌, ℕ, ℤ, suc, Bool, true, false, List, [], ◌∷◌, ◌++◌, map, length, Some, refl, ap, ◌∙◌, arith}
 use Rattle.std.specs.Prelude.{slice_get}
-use Rattle.std.specs.List.{All, concat}
-use Rattle.sp_ids.specs.declared.ends.End.{End}
-use Rattle.ir_ast.specs.Bundles.{HasNoBundle}
+use Rattle.std.specs.List.{concat}
 use Rattle.ir_ast.specs.Layouts.{ObjectLayout}
 use Rattle.ir_ast.specs.Modules.{ModuleContent}
 use Rattle.ir_ast.specs.Objects.{Object, footprint}
 use Rattle.move_plan.specs.declared.plan_lines.PlanLine.{PlanLine}
-use Rattle.map_bytes.specs.Maps.{StackMap}
 use Rattle.moving_heap.specs.declared.stands.Stand.{Stand}
-use Rattle.moving_heap.specs.Contents.{Content}
 use Rattle.object_meaning.specs.Outcomes.{Outcome}
 use Rattle.object_meaning.specs.Texts.{function_name}
 use Rattle.stackmap_write.specs.ModuleMaps.{map_of}
-use Rattle.machine_meaning.specs.Code.{machinery_of}
 use Rattle.machine_meaning.specs.MachineRuns.{MachineOutcome}
-use Rattle.machine_meaning.specs.TrapLines.{closing_of}
 use Rattle.moves_unseen.specs.Statements.{IsSeen}
 use Rattle.moves_unseen.specs.Waits.{IsSound}
-use Rattle.runs_unseen.proofs.MapLaws.{closing_nothing, names_nothing}
 use Rattle.runs_unseen.proofs.SeenRuns.{keeps_way}
 use Rattle.sp_rewrite.specs.Statements.{IsRewritten}
 use Rattle.rewritten_runs.proofs.NameLaws.{names_are_kept}
 use Rattle.tool_report.specs.Closings.{closing_line}
-use Rattle.run_texts.specs.RunTexts.{RunWrites, RunWritesQuiet, run_lines}
+use Rattle.run_texts.specs.RunTexts.{RunWrites}
 use Rattle.rewritten_runs.specs.Places.{sizes_of, stands_by}
-use Rattle.rewritten_runs.specs.ShownTexts.{IsShownText, object_lines, places_meant, places_shown}
-use Rattle.rewritten_runs.specs.ShownStatements.{IsAlike, QuietIsWhole, SourcesAreShown, VerifiedAreShown}
+use Rattle.rewritten_runs.specs.ShownTexts.{object_lines, places_shown}
+use Rattle.rewritten_runs.specs.ShownStatements.{IsAlike, SourcesAreShown, VerifiedAreShown}
 use Rattle.rewritten_runs.proofs.shown_runs.ShownLaws.{shown_text}
 
 same_sizes : (layouts : List ObjectLayout) (objects : List Object) (stands : List Stand) → length stands ≡ length objects
@@ -41,7 +34,7 @@ same_sizes layouts (object ∷ objects) (stand ∷ stands) count sizes =
     ∙ ap (λ (rest : List ℕ). footprint layouts object ∷ rest) (same_sizes layouts objects stands (omega (arith, count)) (λ place o s one two. sizes (suc place) o s one two))
 
 alike : (content : ModuleContent) (input : List ℤ) (plan : List PlanLine) (bound : ℕ) (places trace : Bool) (meant : Outcome) (machine : MachineOutcome) (text : List ℕ) → IsSound content
-    → RunWritesQuiet content (map_of content) input plan bound places trace machine text → IsSeen content meant machine → IsAlike content meant machine
+    → RunWrites content (map_of content) input plan bound places trace machine text → IsSeen content meant machine → IsAlike content meant machine
 alike content input plan bound places trace meant machine text sound writes seen = record {
   lines = seen.lines;
   end = seen.end;
@@ -55,25 +48,9 @@ alike content input plan bound places trace meant machine text sound writes seen
   way = (keeps_way content sound input plan bound machine writes.gives).1;
 }
 
-nothing_shown : (content : ModuleContent) → All HasNoBundle content.funcs → (input : List ℤ) (plan : List PlanLine) (bound : ℕ) (places trace : Bool) (machine : MachineOutcome) (text : List ℕ)
-    → (writes : RunWritesQuiet content (map_of content) input plan bound places trace machine text)
-    → closing_of (machinery_of content (map_of content) plan bound) machine.end writes.gives.last.state ≡ []
-nothing_shown content bare input plan bound places trace machine text writes =
-    closing_nothing (machinery_of content (map_of content) plan bound) machine.end writes.gives.last.state (names_nothing content bare)
-
-pub quiet_is_whole : QuietIsWhole
-quiet_is_whole content bare input plan bound places trace machine text writes = record {
-  gives = writes.gives;
-  is =
-      writes.is
-      ∙ ap (λ (shown : List (List ℕ)). concat (run_lines content (machinery_of content (map_of content) plan bound) places trace input writes.gives.run.within shown machine.end writes.gives.last.state))
-      (sym (nothing_shown content bare input plan bound places trace machine text writes));
-}
-
 pub verified_are_shown : VerifiedAreShown
-verified_are_shown content sound bare input plan bound places trace meant machine text writes seen =
+verified_are_shown content sound input plan bound places trace meant machine text writes seen =
     shown_text content (map_of content) input plan bound places trace machine text writes meant (alike content input plan bound places trace meant machine text sound writes seen)
-    (nothing_shown content bare input plan bound places trace machine text writes)
 
 -- ---- sources
 

@@ -1,7 +1,8 @@
 -- The text of a run that is shown, by the meaning on objects.
-use Rattle.std.proofs.Common.{◌≡◌, ℕ, ℤ, zero, suc, Bool, true, false, List, [], ◌∷◌, ◌++◌, map, length, reverse, Some, refl, sym, ap, subst, ◌∙◌, append-nil, arith}
-use Rattle.std.specs.Prelude.{slice_get}
+use Rattle.std.proofs.Common.{◌≡◌, ℕ, ℤ, suc, Bool, true, false, List, [], ◌∷◌, ◌++◌, map, length, Some, refl, sym, ap, ◌∙◌, append_assoc, arith}
+use Rattle.std.specs.Prelude.{not, slice_get}
 use Rattle.std.specs.List.{concat}
+use Rattle.std.proofs.lemmas.List.Elements.{filter-append}
 use Rattle.std.proofs.lemmas.List.Folds.{concat-append}
 use Rattle.sp_ids.specs.declared.ends.End.{End}
 use Rattle.ir_ast.specs.Layouts.{ObjectLayout}
@@ -21,12 +22,12 @@ use Rattle.machine_meaning.specs.Machines.{Machine, Machinery}
 use Rattle.machine_meaning.specs.TrapLines.{closing_of}
 use Rattle.tool_report.specs.Closings.{closing_line}
 use Rattle.tool_report.specs.RunLines.{place_line}
-use Rattle.run_texts.specs.RunTexts.{RunWritesQuiet, end_lines, layout_name, lines_from, place_lines}
+use Rattle.run_texts.specs.RunTexts.{RunWrites, end_lines, layout_name, lines_from, place_lines}
 use Rattle.rewritten_runs.specs.Places.{sizes_of, stands_by}
 use Rattle.rewritten_runs.proofs.event_places.RunLaws.{places_are_by_events}
-use Rattle.rewritten_runs.specs.ShownTexts.{IsShownText, object_lines, places_meant, places_shown, program_lines}
+use Rattle.rewritten_runs.specs.ShownTexts.{IsShownText, is_traced, object_lines, places_shown, program_lines}
 use Rattle.rewritten_runs.specs.ShownStatements.{IsAlike}
-use Rattle.rewritten_runs.proofs.shown_runs.LineLaws.{prints_from, steps_kept}
+use Rattle.rewritten_runs.proofs.shown_runs.LineLaws.{closing_kept, prints_from, steps_kept}
 
 -- ---- places
 
@@ -53,7 +54,7 @@ same_places layouts (object ∷ objects) (stand ∷ stands) (held ∷ contents) 
 -- ---- the whole
 
 module _ (content : ModuleContent) (stack_map : StackMap) (input : List ℤ) (plan : List PlanLine) (bound : ℕ) (places trace : Bool) (machine : MachineOutcome) (text : List ℕ)
-    (writes : RunWritesQuiet content stack_map input plan bound places trace machine text) (meant : Outcome) (alike : IsAlike content meant machine) where
+    (writes : RunWrites content stack_map input plan bound places trace machine text) (meant : Outcome) (alike : IsAlike content meant machine) where
   abbrev machinery : Machinery
   machinery = machinery_of content stack_map plan bound
 
@@ -63,13 +64,14 @@ module _ (content : ModuleContent) (stack_map : StackMap) (input : List ℤ) (pl
   abbrev body : List (List ℕ)
   body = lines_from machinery trace writes.gives.run.within (Go (machine_opening machinery input))
 
-  -- what the steps print is all that the run does, where no waiting frame shows anything
-  program : closing_of machinery machine.end last ≡ [] → lines_from machinery false writes.gives.run.within (Go (machine_opening machinery input)) ≡ meant.lines
-  program quiet =
-      sym (prints_from machinery writes.gives.run.within (machine_opening machinery input) machine.end writes.gives.last writes.gives.run.by)
-      ∙ (sym (append-nil (reverse writes.gives.last.lines))
-      ∙ (ap (λ (lines : List (List ℕ)). reverse writes.gives.last.lines ++ lines) (sym quiet)
-      ∙ (sym (ap (λ (m : MachineOutcome). m.lines) writes.gives.is) ∙ alike.lines)))
+  abbrev shown : List (List ℕ)
+  shown = closing_of machinery machine.end last
+
+  -- what the steps print and waiting frames show is all that the run writes
+  program : lines_from machinery false writes.gives.run.within (Go (machine_opening machinery input)) ++ shown ≡ meant.lines
+  program =
+      ap (λ (lines : List (List ℕ)). lines ++ shown) (sym (prints_from machinery writes.gives.run.within (machine_opening machinery input) machine.end writes.gives.last writes.gives.run.by))
+      ∙ (sym (ap (λ (m : MachineOutcome). m.lines) writes.gives.is) ∙ alike.lines)
 
   stands : last.heap.stands ≡ stands_by plan meant.happened (sizes_of content.layouts meant.objects)
   stands =
@@ -96,14 +98,22 @@ module _ (content : ModuleContent) (stack_map : StackMap) (input : List ℤ) (pl
       ∙ ap (closing_line meant.end (function_name content meant.func) meant.steps) alike.events)))
 
   -- the text of a run that is shown, by the meaning on objects
-  pub shown_text : closing_of machinery machine.end last ≡ [] → IsShownText content plan places trace meant text
-  shown_text quiet = record {
-    lines = body;
-    program = steps_kept machinery trace writes.gives.run.within (Go (machine_opening machinery input)) ∙ program quiet;
-    untraced = λ off. ap (λ (t : Bool). lines_from machinery t writes.gives.run.within (Go (machine_opening machinery input))) off ∙ program quiet;
-    whole =
-        writes.is
-        ∙ (ap (λ (lines : List (List ℕ)). concat (body ++ lines)) (shown_places places)
-        ∙ (concat-append body (closing_line machine.end (function_name content last.state.running.func) last.state.steps last.state.events ∷ places_shown places content plan meant)
-        ∙ ap (λ (line : List ℕ). concat body ++ (line ++ concat (places_shown places content plan meant))) closes));
-  }
+  pub shown_text : IsShownText content plan places trace meant text
+  shown_text =
+      let start = Go (machine_opening machinery input) in
+      let within = writes.gives.run.within in
+      let close = closing_line machine.end (function_name content last.state.running.func) last.state.steps last.state.events in
+      let standing = places_shown places content plan meant in
+      record {
+        lines = body ++ shown;
+        program = filter-append (λ (line : List ℕ). not (is_traced line)) body shown
+            ∙ (ap (λ (lines : List (List ℕ)). lines ++ program_lines shown) (steps_kept machinery trace within start)
+            ∙ (ap (λ (lines : List (List ℕ)). lines_from machinery false within start ++ lines) (closing_kept machinery machine.end last) ∙ program));
+        untraced = λ off. ap (λ (t : Bool). lines_from machinery t within start ++ shown) off ∙ program;
+        whole =
+            writes.is
+            ∙ (ap (λ (lines : List (List ℕ)). concat (body ++ (shown ++ lines))) (shown_places places)
+            ∙ (ap concat (sym (append_assoc body shown (close ∷ standing)))
+            ∙ (concat-append (body ++ shown) (close ∷ standing)
+            ∙ ap (λ (line : List ℕ). concat (body ++ shown) ++ (line ++ concat standing)) closes)));
+      }

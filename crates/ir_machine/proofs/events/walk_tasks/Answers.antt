@@ -9,16 +9,10 @@ pub loop-place-preserved : goal.loop-place-preserved
 loop-place-preserved c =
     let tasks : List (Option Task) = c.loop-place.tasks in
     let below : c.loop-place.place < length tasks = omega arith in
-    walks_more (machinery c.args.program.now) c.args.moves.now.moves c.args.tasks.now tasks c.loop-place.place (get_or tasks c.loop-place.place c.index-tasks-place.result) below (ap (get_or tasks c.loop-place.place) c.index-tasks-place.is) c.loop-place.invariant c.walk_slot.new.slot c.walk_slot.ensures.kept (rw c.if-lost.false at c.in_ok-lost.ensures.walked)
+    walks_more (machinery c.args.program.now) c.args.moves.now.moves c.args.tasks.now tasks c.loop-place.place (get_or tasks c.loop-place.place c.index-tasks-place.result) below (ap (get_or tasks c.loop-place.place) c.index-tasks-place.is) c.loop-place.invariant c.walk_slot.new.slot c.walk_slot.ensures.kept (rw c.if-walk_slot.false at c.walk_slot.ensures.walked)
 
-pub returns-in_err-lost-clause-kept : goal.returns-in_err-lost-clause-kept
-returns-in_err-lost-clause-kept c =
-    let tasks : List (Option Task) = c.loop-place.tasks in
-    let below : c.loop-place.place < length tasks = omega arith in
-    kept_more (machinery c.args.program.now) c.args.moves.now.moves c.args.tasks.now tasks c.loop-place.place (get_or tasks c.loop-place.place c.index-tasks-place.result) below (ap (get_or tasks c.loop-place.place) c.index-tasks-place.is) c.loop-place.invariant c.walk_slot.new.slot c.walk_slot.ensures.kept
-
-pub returns-then-lost-clause-kept : goal.returns-then-lost-clause-kept
-returns-then-lost-clause-kept c =
+pub returns-then-walk_slot-clause-kept : goal.returns-then-walk_slot-clause-kept
+returns-then-walk_slot-clause-kept c =
     let tasks : List (Option Task) = c.loop-place.tasks in
     let below : c.loop-place.place < length tasks = omega arith in
     kept_more (machinery c.args.program.now) c.args.moves.now.moves c.args.tasks.now tasks c.loop-place.place (get_or tasks c.loop-place.place c.index-tasks-place.result) below (ap (get_or tasks c.loop-place.place) c.index-tasks-place.is) c.loop-place.invariant c.walk_slot.new.slot c.walk_slot.ensures.kept

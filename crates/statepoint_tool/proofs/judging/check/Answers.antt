@@ -1,4 +1,5 @@
 use Rattle.std.proofs.lemmas.Result.{err_from_is_err_and}
+use Rattle.piece_writer.specs.LinePuts.{told_by}
 use Rattle.statepoint_tool.specs.Work.{after_check}
 use Rattle.statepoint_tool.proofs.WorksLaws.{Works-shown, Works-stops_at, Works-goes_on_at}
 use Rattle.statepoint_tool.proofs.judging.check.Goals as goal
@@ -7,7 +8,7 @@ pub returns-in_err-checked-clause-works : goal.returns-in_err-checked-clause-wor
 returns-in_err-checked-clause-works g c =
     let exit = err_from_is_err_and c.from_residual.result c.from_residual.ensures.1 in
     rw (exit.1, exit.2) (Works-shown (Works-stops_at after_check
-    (g.O.Sink.written c.args.out.now) (g.O.Sink.faults c.args.out.now) c.in_err-checked.ensures.read))
+    (told_by g.O.Sink.written g.O.Sink.puts c.args.out.now) (g.O.Sink.faults c.args.out.now) c.in_err-checked.ensures.read))
 
 pub returns-clause-works : goal.returns-clause-works
 returns-clause-works g c = Works-shown (Works-goes_on_at after_check c.in_ok-checked.ensures.read c.write_ok-written.ensures.came)

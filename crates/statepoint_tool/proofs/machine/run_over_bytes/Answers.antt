@@ -1,4 +1,5 @@
 use Rattle.std.proofs.Common.{◌∙◌, Err, inr, sym, ap}
+use Rattle.piece_writer.specs.LinePuts.{told_by}
 use Rattle.tool_io.proofs.AppendLaws.{append_known-nil}
 use Rattle.statepoint_tool.specs.Answers.{sink_seen}
 use Rattle.statepoint_tool.specs.Steps.{stops}
@@ -10,9 +11,9 @@ use Rattle.statepoint_tool.proofs.machine.run_over_bytes.Goals as goal
 
 pub returns-in-Ok-clause-came : goal.returns-in-Ok-clause-came
 returns-in-Ok-clause-came g c =
-    let out = sink_seen (g.O.Sink.written c.args.out.now) (g.O.Sink.written c.run_bytes.new.out) (g.O.Sink.faults c.args.out.now) (g.O.Sink.faults c.run_bytes.new.out) in
+    let out = sink_seen (told_by g.O.Sink.written g.O.Sink.puts c.args.out.now) (told_by g.O.Sink.written g.O.Sink.puts c.run_bytes.new.out) (g.O.Sink.faults c.args.out.now) (g.O.Sink.faults c.run_bytes.new.out) in
     done-machine (module_in c.args.«module».now).content c.args.bytes.now c.args.job.now.input.now c.args.job.now.plan.now c.args.job.now.steps c.args.job.now.shows c.in-Ok.ran out
-    c.in-Ok.ensures.ran c.status_of.result c.status_of.ensures
+    c.in-Ok.ensures.ran c.in-Ok.ensures.by_one_put c.status_of.result c.status_of.ensures
 
 pub returns-in-Err-BadMap-clause-came : goal.returns-in-Err-BadMap-clause-came
 returns-in-Err-BadMap-clause-came g c =
@@ -25,7 +26,7 @@ returns-in-Err-BadMap-clause-came g c =
 
 pub returns-in-Err-Write-clause-came : goal.returns-in-Err-Write-clause-came
 returns-in-Err-Write-clause-came g c =
-    let out = sink_seen (g.O.Sink.written c.args.out.now) (g.O.Sink.written c.run_bytes.new.out) (g.O.Sink.faults c.args.out.now) (g.O.Sink.faults c.run_bytes.new.out) in (
+    let out = sink_seen (told_by g.O.Sink.written g.O.Sink.puts c.args.out.now) (told_by g.O.Sink.written g.O.Sink.puts c.run_bytes.new.out) (g.O.Sink.faults c.args.out.now) (g.O.Sink.faults c.run_bytes.new.out) in (
       c.in-Err-Write.ensures.failed (ap Err c.in-Err-Write.field-0-is),
       begun-machine (module_in c.args.«module».now).content c.args.bytes.now c.args.job.now.input.now c.args.job.now.plan.now c.args.job.now.steps c.args.job.now.shows out
           (c.in-Err-Write.ensures.write (ap Err c.in-Err-Write.field-0-is)),
@@ -33,6 +34,6 @@ returns-in-Err-Write-clause-came g c =
 
 pub returns-in-Err-Memory-clause-came : goal.returns-in-Err-Memory-clause-came
 returns-in-Err-Memory-clause-came g c =
-    let out = sink_seen (g.O.Sink.written c.args.out.now) (g.O.Sink.written c.run_bytes.new.out) (g.O.Sink.faults c.args.out.now) (g.O.Sink.faults c.run_bytes.new.out) in
+    let out = sink_seen (told_by g.O.Sink.written g.O.Sink.puts c.args.out.now) (told_by g.O.Sink.written g.O.Sink.puts c.run_bytes.new.out) (g.O.Sink.faults c.args.out.now) (g.O.Sink.faults c.run_bytes.new.out) in
     inr (begun-machine (module_in c.args.«module».now).content c.args.bytes.now c.args.job.now.input.now c.args.job.now.plan.now c.args.job.now.steps c.args.job.now.shows out
     (c.in-Err-Memory.ensures.front (ap Err c.in-Err-Memory.field-0-is)))

@@ -1,6 +1,6 @@
 use Rattle.std.proofs.lemmas.Result.{err_from_is_err_and}
+use Rattle.piece_writer.specs.LinePuts.{told_by}
 use Rattle.ir_ast.specs.Modules.{LinedModule}
-use Rattle.statepoint_tool.specs.Answers.{sink_seen, Works}
 use Rattle.statepoint_tool.specs.Taken.{files_seen}
 use Rattle.statepoint_tool.specs.Work.{MayGiveFromInput, after_module, judged}
 use Rattle.statepoint_tool.specs.declared.engine.Engine.{Engine}
@@ -25,7 +25,7 @@ returns-in_err-read-clause-works g c =
     (MayGiveFromInput files c.args.request.input c.args.request.plan engine)
     (from_input_as_told files c.args.request.input c.args.request.plan engine)
     (MayGiveFromInput-as_told files c.args.request.input c.args.request.plan engine)
-    (g.O.Sink.written c.args.out.now) (g.O.Sink.faults c.args.out.now)
+    (told_by g.O.Sink.written g.O.Sink.puts c.args.out.now) (g.O.Sink.faults c.args.out.now)
     (Reads-stops (judged engine) (λ (whole : LinedModule). whole) (rw c.form.ensures at c.in_err-read.ensures.read))))
 
 pub returns-in_err-runner-clause-works : goal.returns-in_err-runner-clause-works
@@ -37,7 +37,7 @@ returns-in_err-runner-clause-works g c =
     (MayGiveFromInput files c.args.request.input c.args.request.plan engine)
     (from_input_as_told files c.args.request.input c.args.request.plan engine)
     (MayGiveFromInput-as_told files c.args.request.input c.args.request.plan engine)
-    (g.O.Sink.written c.args.out.now) (g.O.Sink.faults c.args.out.now)
+    (told_by g.O.Sink.written g.O.Sink.puts c.args.out.now) (g.O.Sink.faults c.args.out.now)
     (Reads-then (judged engine) (λ (_ : Runner). c.in_ok-read.read) (rw c.form.ensures at c.in_ok-read.ensures.read) c.in_err-runner.ensures.judged)))
 
 pub returns-clause-works : goal.returns-clause-works

@@ -1,4 +1,5 @@
 use Rattle.std.proofs.Common.{List, [], ◌∷◌}
+use Rattle.piece_writer.specs.LinePuts.{told_by}
 use Rattle.std.specs.Prelude.{ℤ}
 use Rattle.std.proofs.lemmas.Result.{err_from_is_err_and}
 use Rattle.ir_ast.specs.Modules.{ModuleContent}
@@ -17,7 +18,7 @@ returns-in_err-numbers-clause-works g c = λ (content : ModuleContent) runs.
     let exit = err_from_is_err_and c.from_residual.result c.from_residual.ensures.1 in
     rw (exit.1, exit.2) (Works-stops (λ (numbers : List ℤ). after_input c.args.plan (engine_of c.args.runner) content numbers c.args.steps)
     (MayGiveFromPlan files c.args.plan (engine_of c.args.runner)) (from_plan_as_told files c.args.plan (engine_of c.args.runner)) (MayGiveFromPlan-as_told files c.args.plan (engine_of c.args.runner))
-    (g.O.Sink.written c.args.out.now) (g.O.Sink.faults c.args.out.now) c.in_err-numbers.ensures.read)
+    (told_by g.O.Sink.written g.O.Sink.puts c.args.out.now) (g.O.Sink.faults c.args.out.now) c.in_err-numbers.ensures.read)
 
 pub returns-clause-works : goal.returns-clause-works
 returns-clause-works g c = λ (content : ModuleContent) runs.

@@ -1,4 +1,5 @@
 use Rattle.std.proofs.Common.{List, [], ◌∷◌}
+use Rattle.piece_writer.specs.LinePuts.{told_by}
 use Rattle.move_plan.specs.declared.plan_lines.PlanLine.{PlanLine}
 use Rattle.std.proofs.lemmas.Result.{err_from_is_err_and}
 use Rattle.ir_ast.specs.Modules.{ModuleContent}
@@ -17,7 +18,7 @@ returns-in_err-lines-clause-works g c = λ (content : ModuleContent) runs.
     let exit = err_from_is_err_and c.from_residual.result c.from_residual.ensures.1 in
     rw (exit.1, exit.2) (Works-stops (λ (lines : List PlanLine). run_phase (engine_of c.args.runner) content c.args.numbers.now lines c.args.steps)
     (MayGiveMap files (engine_of c.args.runner)) (map_as_told files (engine_of c.args.runner)) (MayGiveMap-as_told files (engine_of c.args.runner))
-    (g.O.Sink.written c.args.out.now) (g.O.Sink.faults c.args.out.now) c.in_err-lines.ensures.read)
+    (told_by g.O.Sink.written g.O.Sink.puts c.args.out.now) (g.O.Sink.faults c.args.out.now) c.in_err-lines.ensures.read)
 
 pub returns-clause-works : goal.returns-clause-works
 returns-clause-works g c = λ (content : ModuleContent) runs.

@@ -19,8 +19,7 @@ returns-clause-judged c = goes_on c.in_ok-after.after.content (Go c.args.read) c
 pub returns-clause-runs : goal.returns-clause-runs
 returns-clause-runs c = record {
   source = c.requires.source;
-  bundles = c.requires.no_bundle;
   rewritten = c.in_ok-after.ensures.is;
   few = c.in_ok-after.ensures.few;
-  executable = record { target = c.in_ok-after.ensures.target; bundles = c.in_ok-after.ensures.no_bundle };
+  executable = record { target = c.in_ok-after.ensures.target };
 }

@@ -1,4 +1,5 @@
 use Rattle.std.proofs.Common.{map, string_bytes}
+use Rattle.piece_writer.specs.LinePuts.{told_by}
 use Rattle.statepoint_tool.specs.Taken.{files_seen}
 use Rattle.tool_words.specs.Words.{command_of}
 use Rattle.statepoint_tool.specs.Work.{work as work_of}
@@ -11,14 +12,14 @@ pub returns-in-Err-Words-clause-works : goal.returns-in-Err-Words-clause-works
 returns-in-Err-Words-clause-works g c =
     let faults = g.F.Files.faults c.args.files.now in
     Works-no_command (map string_bytes c.args.words.now) (files_seen (g.F.Files.contents c.args.files.now) faults faults)
-    (g.O.Sink.written c.args.out.now) (g.O.Sink.faults c.args.out.now) (c.in-Err-Words.ensures.none (cc))
+    (told_by g.O.Sink.written g.O.Sink.puts c.args.out.now) (g.O.Sink.faults c.args.out.now) (c.in-Err-Words.ensures.none (cc))
 
 pub returns-in-Err-Memory-clause-works : goal.returns-in-Err-Memory-clause-works
 returns-in-Err-Memory-clause-works g c =
     let faults = g.F.Files.faults c.args.files.now in
     let words = map string_bytes c.args.words.now in
     Works-memory (files_seen (g.F.Files.contents c.args.files.now) faults faults) (command_of words) (work_of words)
-    (g.O.Sink.written c.args.out.now) (g.O.Sink.faults c.args.out.now)
+    (told_by g.O.Sink.written g.O.Sink.puts c.args.out.now) (g.O.Sink.faults c.args.out.now)
 
 pub generate-requires-clause-some : goal.generate-requires-clause-some
 generate-requires-clause-some g c = (size_fits (map string_bytes c.args.words.now) c.in-Ok-Gen.seed c.in-Ok-Gen.size c.in-Ok-Gen.steps (rw c.in-Ok-Gen.field-0-is at c.in-Ok-Gen.ensures.gives)).0
@@ -30,5 +31,5 @@ pub returns-in-Ok-Gen-clause-works : goal.returns-in-Ok-Gen-clause-works
 returns-in-Ok-Gen-clause-works g c =
     let faults = g.F.Files.faults c.args.files.now in
     Works-generated (map string_bytes c.args.words.now) (files_seen (g.F.Files.contents c.args.files.now) faults faults) c.in-Ok-Gen.seed c.in-Ok-Gen.size c.in-Ok-Gen.steps c.generate.result
-    (sink_seen (g.O.Sink.written c.args.out.now) (g.O.Sink.written c.generate.new.out) (g.O.Sink.faults c.args.out.now) (g.O.Sink.faults c.generate.new.out))
+    (sink_seen (told_by g.O.Sink.written g.O.Sink.puts c.args.out.now) (told_by g.O.Sink.written g.O.Sink.puts c.generate.new.out) (g.O.Sink.faults c.args.out.now) (g.O.Sink.faults c.generate.new.out))
     (rw c.in-Ok-Gen.field-0-is at c.in-Ok-Gen.ensures.gives) c.generate.ensures.came

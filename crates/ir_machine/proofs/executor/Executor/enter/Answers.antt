@@ -23,6 +23,6 @@ returns c =
     let line = line_of next inst in let rest = lines_left (following next inst) c.args.rest.insts.now in let all = machinery c.args.program.now in
     let task = c.args.self.now.run in
     let few : length (below_of task) + 1 < 4096 = omega (arith, c.len.ensures, length-map (reverse task.below.items) frame_of, length-reverse task.below.items) in
-    ap told (enter_goes all machine line rest c.args.func (map worded_operand c.args.operands.now) (map (value (map number now.run.frame.registers.items)) (map worded_operand c.args.operands.now)) _ _ c.in_ok-address.address _
+    ap told (enter_goes all machine line rest c.args.func (map worded_operand c.args.operands.now) (map (value (map number now.run.frame.registers.items)) (map worded_operand c.args.operands.now)) _ _ c.address_behind-address.result _
     c.if-self-bound.false few refl c.in_ok-call.ensures.frame c.in_ok-call.ensures.below
-    (c.in_ok-address.ensures c.args.program.now.map.whole c.args.program.now.plan.now c.args.program.now.bound) c.in_ok-call.ensures.stack)
+    (c.address_behind-address.ensures c.args.program.now.map.whole c.args.program.now.plan.now c.args.program.now.bound) c.in_ok-call.ensures.stack)

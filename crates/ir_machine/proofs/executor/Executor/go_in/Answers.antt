@@ -20,6 +20,6 @@ returns c =
     let arguments = map (value (map number now.run.frame.registers.items)) operands in
     let few : length (below_of task) + 1 < 4096 = omega (arith, c.requires.few, length-map (reverse task.below.items) frame_of, length-reverse task.below.items) in
     on_ok_weaker c.call.result
-    (λ (e : Enters c.args.program.now.code c.args.func arguments c.in_ok-address.address task c.call.new.self).
-    sym (enter_goes all machine line rest c.args.func operands arguments _ _ c.in_ok-address.address _ c.requires.left few refl e.frame e.below
-    (c.in_ok-address.ensures c.args.program.now.map.whole c.args.program.now.plan.now c.args.program.now.bound) e.stack)) c.call.ensures
+    (λ (e : Enters c.args.program.now.code c.args.func arguments c.address_behind-address.result task c.call.new.self).
+    sym (enter_goes all machine line rest c.args.func operands arguments _ _ c.address_behind-address.result _ c.requires.left few refl e.frame e.below
+    (c.address_behind-address.ensures c.args.program.now.map.whole c.args.program.now.plan.now c.args.program.now.bound) e.stack)) c.call.ensures

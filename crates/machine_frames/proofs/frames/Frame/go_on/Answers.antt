@@ -1,5 +1,4 @@
-use Rattle.std.proofs.Common.{◌≡◌, List, sym, ap, ◌∙◌}
-use Rattle.std.proofs.lemmas.Result.{on_ok_weaker}
+use Rattle.std.proofs.Common.{◌≡◌, List, length, sym, ap, ◌∙◌, arith}
 use Rattle.ir_ast.specs.Insts.{Instruction}
 use Rattle.ir_ast.specs.Objects.{number}
 use Rattle.object_meaning.specs.Lines.{following}
@@ -16,7 +15,7 @@ returns-in-None c =
 pub returns-in-Some : goal.returns-in-Some
 returns-in-Some c =
     let now = c.args.self.now in let inst = c.in-Some.parts.0.now in let rest = c.in-Some.parts.2.insts.now in
-    on_ok_weaker c.go_behind.result
-    (λ (e : frame_of c.go_behind.new.self ≡ gone_behind c.args.stack.now (frame_of now) (line_of now.next inst) (lines_left (following now.next inst) rest) (number c.args.answer) inst.op).
-    e ∙ sym (ap (λ (insts : List Instruction). gone_from c.args.stack.now (frame_of now) (lines_left now.next insts) (number c.args.answer)) c.in-Some.ensures.insts))
-    c.go_behind.ensures
+    c.go_behind.ensures ∙ sym (ap (λ (insts : List Instruction). gone_from c.args.stack.now (frame_of now) (lines_left now.next insts) (number c.args.answer)) c.in-Some.ensures.insts)
+
+pub go_behind-requires : goal.go_behind-requires
+go_behind-requires c = let all = ap length c.in-Some.ensures.insts in omega (arith, c.requires)

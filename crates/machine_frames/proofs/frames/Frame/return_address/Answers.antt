@@ -1,5 +1,4 @@
 use Rattle.std.proofs.Common.{◌≡◌, ℕ, List, ap, ◌∙◌}
-use Rattle.std.proofs.lemmas.Result.{IfOk-weaker}
 use Rattle.ir_ast.specs.Insts.{Instruction}
 use Rattle.map_bytes.specs.Maps.{StackMap}
 use Rattle.move_plan.specs.declared.plan_lines.PlanLine.{PlanLine}
@@ -18,8 +17,4 @@ returns-in-None c =
 pub returns-in-Some : goal.returns-in-Some
 returns-in-Some c =
     let now = c.args.self.now in let code = c.args.code.now in let inst = c.in-Some.parts.0.now in let rest = c.in-Some.parts.2.insts.now in
-    IfOk-weaker c.address_behind.result
-    (λ (address : ℕ). (map : StackMap) → (plan : List PlanLine) → (bound : ℕ) → address_behind (machinery_of code map plan bound) (frame_of now) (line_of now.next inst) (lines_left (following now.next inst) rest) ≡ address)
-    (λ (address : ℕ). (map : StackMap) → (plan : List PlanLine) → (bound : ℕ) → return_address (machinery_of code map plan bound) (frame_of now) ≡ address)
-    (λ address e map plan bound. ap (λ (insts : List Instruction). return_to (machinery_of code map plan bound) (frame_of now) (lines_left now.next insts)) c.in-Some.ensures.insts ∙ e map plan bound)
-    c.address_behind.ensures
+    λ map plan bound. ap (λ (insts : List Instruction). return_to (machinery_of code map plan bound) (frame_of now) (lines_left now.next insts)) c.in-Some.ensures.insts ∙ c.address_behind.ensures map plan bound

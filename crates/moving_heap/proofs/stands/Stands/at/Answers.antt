@@ -11,7 +11,7 @@ use Rattle.moving_heap.proofs.stands.Stands.at.Goals as goal
 
 pub size-requires : goal.size-requires
 size-requires c =
-    let cells = c.self.inside.cells.now in
+    let cells = c.self.inside.cells.now.contents in
     let same = length-map cells bytes_of ∙ c.self.invariant.0 in
     let stands = numbered 0 c.self.inside.addresses.now (sizes_of cells) in
     let many = numbered-length 0 c.self.inside.addresses.now (sizes_of cells) same in
@@ -21,7 +21,7 @@ size-requires c =
 
 pub returns-then-place-self : goal.returns-then-place-self
 returns-then-place-self c =
-    let cells = c.self.inside.cells.now in
+    let cells = c.self.inside.cells.now.contents in
     let same = length-map cells bytes_of ∙ c.self.invariant.0 in
     ap (λ (n : ℕ). let one : Stand = record { number = c.args.place + 1; size = n; address = get_or c.self.inside.addresses.now c.args.place 0 } in one) c.size.ensures
     ∙ sym (numbered-at 0 c.self.inside.addresses.now (sizes_of cells) c.args.place (c.args.place + 1) nowhere 0 0 same (omega (arith, c.if-place-self.true)) (omega arith))
@@ -29,14 +29,14 @@ returns-then-place-self c =
 
 pub returns-else-place-self : goal.returns-else-place-self
 returns-else-place-self c =
-    let cells = c.self.inside.cells.now in
+    let cells = c.self.inside.cells.now.contents in
     let size = numbered-length 0 c.self.inside.addresses.now (sizes_of cells) (length-map cells bytes_of ∙ c.self.invariant.0) in
     sym (get_or_past (numbered 0 c.self.inside.addresses.now (sizes_of cells)) c.args.place nowhere (omega (arith, c.if-place-self.false)))
     ∙ ap (λ (stands : List Stand). stand_at stands c.args.place) c.self.view_is
 
 pub overflow_cast-result : goal.overflow_cast-result
 overflow_cast-result c =
-    let cells = c.self.inside.cells.now in
+    let cells = c.self.inside.cells.now.contents in
     let stands = numbered 0 c.self.inside.addresses.now (sizes_of cells) in
     let many = numbered-length 0 c.self.inside.addresses.now (sizes_of cells) (length-map cells bytes_of ∙ c.self.invariant.0) in
     let count = count_within stands (λ k d l. (c.self.invariant.1.each k d l).size) in

@@ -6,5 +6,5 @@ use Rattle.moving_heap.proofs.stands.Stands.len.Goals as goal
 
 pub returns : goal.returns
 returns c =
-    let cells = c.self.inside.cells.now in
+    let cells = c.self.inside.cells.now.contents in
     sym (numbered-length 0 c.self.inside.addresses.now (sizes_of cells) (length-map cells bytes_of ∙ c.self.invariant.0)) ∙ ap length c.self.view_is

@@ -10,7 +10,7 @@ use Rattle.stackmap_view.proofs.view.MapView.find.Goals as goal
 pub returns : goal.returns
 returns c =
     let p = λ (entry : Entry). entry.return_address == c.args.return_address in
-    find-end p (records_left c.loop-record.record-iterator) (entry_at (stack_map c.args.self.now) c.args.return_address) c.in-None.ensures.steps.0 c.loop-record.invariant
+    record { found = find-end p (records_left c.loop-record.record-iterator) (entry_at (stack_map c.args.self.now) c.args.return_address) c.in-None.ensures.steps.0 c.loop-record.invariant; map = tt }
 
 pub loop-record-preserved : goal.loop-record-preserved
 loop-record-preserved c =
