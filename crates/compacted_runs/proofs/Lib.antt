@@ -1,0 +1,4 @@
+pub mod EventLaws
+pub mod CompactLaws
+pub mod MachineLaws
+mod Samples

@@ -1,0 +1,60 @@
+-- The plan that compacts, on the machine.
+use Rattle.std.proofs.Common.{◌≡◌, ℕ, suc, List, [], ◌∷◌, length, map, Some, refl, sym, ap, subst, ◌∙◌, arith}
+use Rattle.std.specs.Prelude.{slice_get}
+use Rattle.std.proofs.Math.Path.{fun_ext}
+use Rattle.ir_ast.specs.Layouts.{ObjectLayout}
+use Rattle.ir_ast.specs.Modules.{ModuleContent}
+use Rattle.ir_ast.specs.Objects.{Object, footprint}
+use Rattle.move_plan.specs.Plans.{go}
+use Rattle.moving_heap.specs.declared.stands.Stand.{Stand}
+use Rattle.object_meaning.specs.SourceRuns.{SourceGives}
+use Rattle.object_meaning.specs.Traces.{Event}
+use Rattle.stackmap_write.specs.ModuleMaps.{map_of}
+use Rattle.moves_unseen.specs.Waits.{IsSound}
+use Rattle.rewritten_sound.specs.Definite.{rewritten_source}
+use Rattle.sp_rewrite.specs.Statements.{IsRewritten}
+use Rattle.sp_rewrite.proofs.RewrittenLaws.{rewriting_is_target, rewriting_is_verified, rewriting_keeps_meaning, source_is_rewritten}
+use Rattle.runs_unseen.proofs.SeenRuns.{keeps_way, seen_there}
+use Rattle.rewritten_runs.specs.PlacedRuns.{IsPlacedBy, events_of, sizes_in as sizes_stood}
+use Rattle.rewritten_runs.proofs.event_places.RunLaws.{places_are_by_events}
+use Rattle.made_objects.specs.Makings.{makings, sizes_in}
+use Rattle.compact_plan.proofs.LineLaws.{others_stay}
+use Rattle.compacted_runs.specs.Statements.{MachinesCompact, compacting}
+
+-- objects that stand with their footprints
+stood_sizes : (layouts : List ObjectLayout) (objects : List Object) (stands : List Stand) → length stands ≡ length objects
+    → ((place : ℕ) (object : Object) (stand : Stand) → slice_get objects place ≡ Some object → slice_get stands place ≡ Some stand → stand.size ≡ footprint layouts object)
+    → map (λ (stand : Stand). stand.size) stands ≡ sizes_in layouts objects
+stood_sizes layouts [] [] count sizes = refl
+stood_sizes layouts [] (stand ∷ stands) count sizes = absurd (omega (arith, count))
+stood_sizes layouts (object ∷ objects) [] count sizes = absurd (omega (arith, count))
+stood_sizes layouts (object ∷ objects) (stand ∷ stands) count sizes =
+    ap (λ (size : ℕ). size ∷ map (λ (s : Stand). s.size) stands) (sizes 0 object stand refl refl)
+    ∙ ap (λ (rest : List ℕ). footprint layouts object ∷ rest) (stood_sizes layouts objects stands (omega (arith, count)) (λ place o s one two. sizes (suc place) o s one two))
+
+pub machines_compact : MachinesCompact
+machines_compact content source input plan bound event outcome gives =
+    let whole = source_is_rewritten content source in
+    let reached = whole.1.reached in
+    let drops = whole.1.drops in
+    let now = compacting content plan event outcome in
+    let same_go : go now ≡ go plan = fun_ext (others_stay plan (makings outcome.happened (sizes_in content.layouts outcome.objects)) event).go in
+    let under : SourceGives content input (go now) bound outcome = subst (λ lines. SourceGives content input lines bound outcome) (sym same_go) gives in
+    let after : ModuleContent = rewritten_source reached in
+    let is : IsRewritten content after = record { reached = reached; drops = drops; rest = refl } in
+    let sound : IsSound after = record { target = rewriting_is_target content after source is; verified = rewriting_is_verified content after source is } in
+    let target = (rewriting_keeps_meaning content after source is input (go now) bound outcome).0 under in
+    let run = seen_there after sound input now bound outcome target in
+    let seen = run.1.1 in
+    let placed = places_are_by_events after (map_of after) input now bound run.0 run.1.0 (keeps_way after sound input now bound run.0 run.1.0).1 in
+    let sizes : sizes_stood run.0 ≡ sizes_in content.layouts outcome.objects =
+    stood_sizes after.layouts outcome.objects (run.0).heap.stands seen.objects.stands_count seen.objects.sizes
+    ∙ ap (λ (layouts : List ObjectLayout). sizes_in layouts outcome.objects) drops.layouts in
+    record {
+      after = after;
+      rewritten = is;
+      machine = run.0;
+      gives = run.1.0;
+      placed = subst (λ (list : List Event). IsPlacedBy now list (sizes_in content.layouts outcome.objects) run.0) seen.happened
+          (subst (λ (list : List ℕ). IsPlacedBy now (events_of run.0) list run.0) sizes placed);
+    }
