@@ -1,6 +1,7 @@
 -- From what is known of lines to what is known of their text, and from each part of the work to the answer.
 use Rattle.std.proofs.Common.{◌≡◌, refl, sym, ap, ◌∙◌, subst, ◌≤◌, ◌<◌, ℕ, List, length, map, Ok, Err, inl, inr}
-use Rattle.std.specs.Prelude.{Result}
+use Rattle.std.specs.Prelude.{Result, ◌++◌}
+use Rattle.std.specs.List.{All}
 use Rattle.ir_ast.specs.declared.modules.Form.{Form}
 use Rattle.ir_ast.specs.declared.modules.Form.TheVariants.{Source, Rewritten}
 use Rattle.ir_lines.specs.Statements.{Line, lines_of}
@@ -20,7 +21,12 @@ use Rattle.llvm_lift.specs.declared.front.Judged.TheVariants.{Printed, Faulty}
 use Rattle.llvm_lift.specs.declared.refusals.Refusal.{Refusal}
 use Rattle.llvm_lift.specs.declared.refusals.Refusal.TheVariants as refusals
 use Rattle.llvm_lift.specs.Texts.{IsNone, IsPrinted, IsPrintedOf, IsJudged, IsJudgedLines, IsUnread, HasFault, unread, passes, untyped}
-use Rattle.llvm_lift.specs.Lifted.{Settles, source, rewritten, both, IsAgain, IsSettled, IsOutside, Answers, IsLifting, IsLift, left, lifted, IsMade, IsFaultOfMade, IsJudgedLifted, IsFaultOf}
+use Rattle.llvm_lift.specs.Lifted.{Settles, source, rewritten, both, IsAgain, IsSettled, IsOutside, Answers, IsMaking, IsLifting, as_it_stands, plainer, IsRefusal, IsLift, left, lifted, IsMade, IsFaultOfMade, IsJudgedLifted, IsFaultOf}
+use Rattle.ir_types.specs.FaultSet.{plain as plain_fault}
+use Rattle.outside_texts.specs.Declares.{IsRefused}
+use Rattle.llvm_features.specs.declared.features.Feature.TheVariants.{NoLayout}
+use Rattle.llvm_features.specs.declared.features.Reason.{Reason}
+use Rattle.llvm_features.specs.Features.{reasons_of}
 use Rattle.llvm_lift.proofs.StandLaws.{faulty_is_none}
 
 -- what is judged of the lines that a text has is judged of the text
@@ -70,7 +76,7 @@ is_outside text line code other_line other_code first second = record {
 }
 
 -- what is made of a text outside the profile is an answer for it
-pub answers_outside : {X : Type 0} (view : X → List ℕ) (text : List ℕ) (result : Result X Refusal) → IsOutside text → IsLifting view result → Answers view text result
+pub answers_outside : {X : Type 0} (view : X → List ℕ) (text : List ℕ) (result : Result X Refusal) → IsOutside text → IsLifting view text result → Answers view text result
 answers_outside view text (Ok out) outside made = lifted (record { outside = outside; lifted = made.lifted; small = made.small; settles = made.settles })
 answers_outside view text (Err (refusals.Outside reasons)) outside some = (outside, some)
 answers_outside view text (Err (refusals.Fault fault)) outside made = record { outside = outside; form = made.form; lifted = made.lifted; line = made.line; fault = made.fault }
@@ -113,8 +119,48 @@ lifted_source text (Err (refusals.Fault fault)) never = absurd never
 
 -- the fault of a lifted text
 pub lifting_fault : {X : Type 0} (view : X → List ℕ) (code : ℕ) (refusal : Refusal) → IsFaultOfMade code → IsFaultOf code refusal
-    → IsLifting view (Err refusal)
+    → IsMaking view (Err refusal)
 lifting_fault view code (refusals.Fault fault) made same = subst IsFaultOfMade (sym same) made
 lifting_fault view code (refusals.Outside reasons) made never = absurd never
 lifting_fault view code refusals.TooLong made never = absurd never
 lifting_fault view code refusals.Memory made never = absurd never
+
+-- what is made is what lifting answers
+pub making_lifts : {X : Type 0} (view : X → List ℕ) (text : List ℕ) (result : Result X Refusal) → IsMaking view result → IsLifting view text result
+making_lifts view text (Ok out) made = made
+making_lifts view text (Err (refusals.Outside reasons)) never = absurd never
+making_lifts view text (Err (refusals.Fault fault)) made = made
+making_lifts view text (Err refusals.TooLong) made = made
+making_lifts view text (Err refusals.Memory) made = made
+
+-- what lifting a text in plainer spelling answers
+pub plainer_lifts : {X : Type 0} (view : X → List ℕ) (text plain : List ℕ) (result : Result X Refusal) → IsLifting view plain result → IsLifting view text result
+plainer_lifts view text plain (Ok out) made = made
+plainer_lifts view text plain (Err (refusals.Outside reasons)) are = record { plain = are.plain; spelling = plainer are.plain; missing = are.missing; is = are.is; lack = are.lack; some = are.some }
+plainer_lifts view text plain (Err (refusals.Fault fault)) made = made
+plainer_lifts view text plain (Err refusals.TooLong) made = made
+plainer_lifts view text plain (Err refusals.Memory) made = made
+
+-- a text that has the fault of an unknown external wherever it is read is outside
+refused_is_none : (form : Form) (text : List ℕ) → IsRefused form text → IsNone form text
+refused_is_none form text refused content stands =
+    let fault = refused stands.readings stands.reads in
+    stands.faultless fault.0 12 (plain_fault 12 fault.1)
+
+pub refused_outside : (text : List ℕ) → ((form : Form) → IsRefused form text) → IsOutside text
+refused_outside text refused = record { source = refused_is_none Source text (refused Source); rewritten = refused_is_none Rewritten text (refused Rewritten) }
+
+-- what is told of reasons is what lifting answers
+pub refusal_lifts : {X : Type 0} (view : X → List ℕ) (text : List ℕ) (reasons missing : List Reason) (refusal : Refusal) → reasons ≡ reasons_of text
+    → All (λ reason. reason.feature ≡ NoLayout) missing → IsRefusal reasons missing refusal → IsLifting view text (Err refusal)
+refusal_lifts view text reasons missing (refusals.Outside all) told lack is = record {
+  plain = text;
+  spelling = as_it_stands;
+  missing = missing;
+  is = is.0 ∙ ap (λ (it : List Reason). it ++ missing) told;
+  lack = lack;
+  some = is.1;
+}
+refusal_lifts view text reasons missing (refusals.Fault fault) told lack never = absurd never
+refusal_lifts view text reasons missing refusals.TooLong told lack never = absurd never
+refusal_lifts view text reasons missing refusals.Memory told lack is = is

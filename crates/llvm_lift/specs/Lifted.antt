@@ -1,7 +1,11 @@
 -- What lifting answers.
-use Rattle.std.specs.Prelude.{◌≡◌, ◌≤◌, ◌<◌, ℕ, List, length, Result, Ok, Err, ⊤, ◌⊎◌}
+use Rattle.std.specs.Prelude.{◌≡◌, ◌≤◌, ◌<◌, ℕ, List, ◌++◌, length, Result, Ok, Err, ⊤, ◌⊎◌}
+use Rattle.std.specs.List.{All}
 use Rattle.ir_ast.specs.declared.modules.Form.{Form}
 use Rattle.ir_ast.specs.declared.modules.Form.TheVariants.{Source, Rewritten}
+use Rattle.llvm_features.specs.declared.features.Reason.{Reason}
+use Rattle.llvm_features.specs.declared.features.Feature.TheVariants.{NoLayout}
+use Rattle.llvm_features.specs.Features.{reasons_of}
 use Rattle.llvm_lift.specs.Texts.{IsNone, IsPrinted, HasFault}
 use Rattle.llvm_lift.specs.declared.front.Judged.{Judged}
 use Rattle.llvm_lift.specs.declared.front.Judged.TheVariants.{Printed, Faulty}
@@ -52,10 +56,24 @@ pub record FaultOfLifted (text : List ℕ) (code : ℕ) : Type 0 where
   pub line : ℕ
   pub fault : HasFault form lifted line code
 
+-- the text as it stands, or in a plainer spelling, without quotes around names
+pub data IsSpelling (text : List ℕ) : List ℕ → Type 0 where
+  as_it_stands : IsSpelling text text
+  plainer : (plain : List ℕ) → IsSpelling text plain
+
+-- Why a text isn't lifted: all lines that tell a feature by their words, and then declarations of objects whose layout is nowhere.
+pub record AreReasons (text : List ℕ) (reasons : List Reason) : Type 0 where
+  pub plain : List ℕ
+  pub spelling : IsSpelling text plain
+  pub missing : List Reason
+  pub is : reasons ≡ reasons_of plain ++ missing
+  pub lack : All (λ reason. reason.feature ≡ NoLayout) missing
+  pub some : 0 < length reasons
+
 -- what was returned, seen by view
 abbrev pub Answers : {X : Type 0} → (X → List ℕ) → List ℕ → Result X Refusal → Type 0
 Answers view text (Ok out) = IsLift text (view out)
-Answers view text (Err (refusals.Outside reasons)) = IsOutside text × (0 < length reasons.items)
+Answers view text (Err (refusals.Outside reasons)) = IsOutside text × AreReasons text reasons.items
 Answers view text (Err (refusals.Fault fault)) = FaultOfLifted text fault.code
 Answers view text (Err refusals.TooLong) = IsTooLong text ⊎ IsOutside text
 Answers view text (Err refusals.Memory) = ⊤
@@ -82,12 +100,25 @@ pub record IsFaultOfMade (code : ℕ) : Type 0 where
   pub line : ℕ
   pub fault : HasFault form lifted line code
 
-abbrev pub IsLifting : {X : Type 0} → (X → List ℕ) → Result X Refusal → Type 0
-IsLifting view (Ok out) = IsMade (view out)
-IsLifting view (Err (refusals.Outside reasons)) = 0 < length reasons.items
-IsLifting view (Err (refusals.Fault fault)) = IsFaultOfMade fault.code
-IsLifting view (Err refusals.TooLong) = ⊤
-IsLifting view (Err refusals.Memory) = ⊤
+-- these reasons are told, the missing ones behind the others
+abbrev pub IsRefusal : List Reason → List Reason → Refusal → Type 0
+IsRefusal reasons missing (refusals.Outside all) = (all.items ≡ reasons ++ missing) × (0 < length all.items)
+IsRefusal reasons missing refusals.Memory = ⊤
+IsRefusal reasons missing _ = ⊥
+
+abbrev pub IsMaking : {X : Type 0} → (X → List ℕ) → Result X Refusal → Type 0
+IsMaking view (Ok out) = IsMade (view out)
+IsMaking view (Err (refusals.Outside reasons)) = ⊥
+IsMaking view (Err (refusals.Fault fault)) = IsFaultOfMade fault.code
+IsMaking view (Err refusals.TooLong) = ⊤
+IsMaking view (Err refusals.Memory) = ⊤
+
+abbrev pub IsLifting : {X : Type 0} → (X → List ℕ) → List ℕ → Result X Refusal → Type 0
+IsLifting view text (Ok out) = IsMade (view out)
+IsLifting view text (Err (refusals.Outside reasons)) = AreReasons text reasons.items
+IsLifting view text (Err (refusals.Fault fault)) = IsFaultOfMade fault.code
+IsLifting view text (Err refusals.TooLong) = ⊤
+IsLifting view text (Err refusals.Memory) = ⊤
 
 -- what is said of a lifted text
 abbrev pub IsJudgedLifted : List ℕ → Result Judged Refusal → Type 0

@@ -1,20 +1,17 @@
 //! A text of the profile is left alone, any other is lifted or refused.
-ghost use Rattle.std.specs.Prelude.{◌≡◌, ◌≤◌, length};
-ghost use Rattle.llvm_lift.specs.Lifted.{Answers, IsSettled, IsAgain, IsLifting, IsJudgedLifted, IsFaultOf};
+ghost use Rattle.std.specs.Prelude.{◌≡◌, ◌≤◌, ◌<◌, ◌+◌, length};
+ghost use Rattle.llvm_lift.specs.Lifted.{Answers, IsSettled, IsAgain, IsLifting, IsJudgedLifted, IsFaultOf, IsMaking, IsRefusal};
 
 use crate::front::{Judged, judge_text};
 use crate::refusals::Refusal;
 use ir_ast::Form;
 use ir_types::Fault;
-use llvm_lines::{
-    Declared, Feature, Reason, Writer, declared_in, layout_named, lift_lines, plain_text,
-    put_tokens, reasons_in,
-};
-use sp_ids::Memory;
+use llvm_features::Reason;
+use llvm_lines::{is_plain, lift_text, plain_text, without_zero_steps};
+use memchr::memmem;
+use outside_texts::declares_unknown;
 use sp_ids::limits::FILE_BYTES;
-use sp_text::Lines;
 use std::alloc::Global;
-use std::collections::HashSet;
 
 /// The printed text of what a text that LLVM prints is in the profile.
 pub fn lift(alloc: Global, text: &[u8], layouts: &[u8]) -> Result<Vec<u8>, Refusal>
@@ -22,6 +19,9 @@ pub fn lift(alloc: Global, text: &[u8], layouts: &[u8]) -> Result<Vec<u8>, Refus
     requires layouts { length layouts.now ≤ 16777216 }
     ensures answers { Answers (λ out. out.items) text.now result }
 {
+    if declares_unknown(alloc, text)? {
+        return lift_outside(alloc, text, layouts);
+    }
     match settled(alloc, text)? {
         Judged::Printed(printed) => Ok(printed),
         Judged::Faulty(_) => lift_outside(alloc, text, layouts),
@@ -55,33 +55,75 @@ fn again(alloc: Global, printed: Vec<u8>) -> Result<Judged, Refusal>
     }
 }
 
+#[tactic(auto, using(crate::proofs::JudgeLaws::plainer_lifts))]
 fn lift_outside(alloc: Global, text: &[u8], layouts: &[u8]) -> Result<Vec<u8>, Refusal>
     requires text { length text.now ≤ 16777216 }
     requires layouts { length layouts.now ≤ 16777216 }
-    ensures { IsLifting (λ out. out.items) result }
+    ensures { IsLifting (λ out. out.items) text.now result }
 {
+    if is_plain(text) {
+        return lift_spelled(alloc, text, layouts);
+    }
     let plain = plain_text(alloc, text)?;
     if plain.len() as u64 > FILE_BYTES {
         return Err(Refusal::TooLong);
     }
-    let mut reasons = reasons_in(alloc, plain.as_slice())?;
-    let declared = declared_in(alloc, plain.as_slice())?;
-    let mut writer = Writer::new(alloc);
-    let found = put_layouts(alloc, layouts, &declared, &mut writer)?;
-    push_missing(&mut reasons, &declared, &found)?;
-    if !reasons.is_empty() {
-        return Err(Refusal::Outside(reasons));
+    lift_spelled(alloc, plain.as_slice(), layouts)
+}
+
+// In a text with statepoints steps of zero are their operands.
+#[tactic(auto, using(crate::proofs::JudgeLaws::plainer_lifts))]
+fn lift_spelled(alloc: Global, text: &[u8], layouts: &[u8]) -> Result<Vec<u8>, Refusal>
+    requires text { length text.now ≤ 16777216 }
+    requires layouts { length layouts.now ≤ 16777216 }
+    ensures { IsLifting (λ out. out.items) text.now result }
+{
+    if memmem::find(text, b"@llvm.experimental.gc.").is_none() {
+        return lift_plain(alloc, false, text, layouts);
     }
-    lift_lines(alloc, plain.as_slice(), &declared, &mut writer)?;
-    if writer.text.len() as u64 > FILE_BYTES {
+    let stepless = without_zero_steps(alloc, text)?;
+    if stepless.len() as u64 > FILE_BYTES {
+        return Err(Refusal::TooLong);
+    }
+    lift_plain(alloc, true, stepless.as_slice(), layouts)
+}
+
+#[tactic(auto, using(crate::proofs::JudgeLaws::making_lifts))]
+fn lift_plain(
+    alloc: Global,
+    is_rewritten: bool,
+    text: &[u8],
+    layouts: &[u8],
+) -> Result<Vec<u8>, Refusal>
+    requires text { length text.now ≤ 16777216 }
+    requires layouts { length layouts.now ≤ 16777216 }
+    ensures { IsLifting (λ out. out.items) text.now result }
+{
+    let lifted = lift_text(alloc, text, layouts)?;
+    if !lifted.reasons.is_empty() || !lifted.missing.is_empty() {
+        return Err(refused(lifted.reasons, lifted.missing));
+    }
+    if lifted.text.len() as u64 > FILE_BYTES {
         return Err(Refusal::TooLong);
     }
     made_of(
         alloc,
-        declared.is_rewritten,
-        writer.text.as_slice(),
-        writer.origins.as_slice(),
+        is_rewritten,
+        lifted.text.as_slice(),
+        lifted.origins.as_slice(),
     )
+}
+
+// The lines that tell a feature, and behind them the declarations of objects whose layout is nowhere.
+fn refused(reasons: Vec<Reason>, missing: Vec<Reason>) -> Refusal
+    requires { 0 < length reasons.items + length missing.items }
+    ensures { IsRefusal reasons.items missing.items result }
+{
+    let mut all = reasons;
+    match all.extend_from_slice(missing.as_slice()) {
+        Ok(()) => Refusal::Outside(all),
+        Err(_) => Refusal::Memory,
+    }
 }
 
 // What becomes of a lifted text.
@@ -92,7 +134,7 @@ fn made_of(
     origins: &[u32],
 ) -> Result<Vec<u8>, Refusal>
     requires { length lifted.now ≤ 16777216 }
-    ensures { IsLifting (λ out. out.items) result }
+    ensures { IsMaking (λ out. out.items) result }
 {
     match judge_lifted(alloc, is_rewritten, lifted)? {
         Judged::Printed(printed) => Ok(printed),
@@ -124,52 +166,4 @@ fn fault_at(origins: &[u32], fault: Fault) -> Refusal
         line,
         code: fault.code,
     })
-}
-
-// Puts the layouts that the text lacks and these lines have: which they are.
-fn put_layouts<'l>(
-    alloc: Global,
-    layouts: &'l [u8],
-    declared: &Declared,
-    writer: &mut Writer,
-) -> Result<HashSet<&'l [u8]>, Memory>
-    requires { length layouts.now ≤ 16777216 }
-{
-    let mut missing = HashSet::new(alloc);
-    for made in &declared.made {
-        if !declared.layouts.contains(&made.layout) {
-            missing.insert(made.layout)?;
-        }
-    }
-    let mut found = HashSet::new(alloc);
-    let mut lines = Lines::of(layouts);
-    let mut row = Vec::new(alloc);
-    while let Some(line) = lines.next_line() {
-        put_tokens(&mut row, line)?;
-        if let Some(name) = layout_named(row.as_slice()) {
-            if missing.contains(&name) && !found.contains(&name) {
-                writer.bytes(line.bytes)?;
-                writer.end()?;
-                found.insert(name)?;
-            }
-        }
-    }
-    Ok(found)
-}
-
-// The objects whose layout is nowhere.
-fn push_missing(
-    reasons: &mut Vec<Reason>,
-    declared: &Declared,
-    found: &HashSet<&[u8]>,
-) -> Result<(), Memory> {
-    for made in &declared.made {
-        if !declared.layouts.contains(&made.layout) && !(&*found).contains(&made.layout) {
-            reasons.push(Reason {
-                line: made.line,
-                feature: Feature::NoLayout,
-            })?;
-        }
-    }
-    Ok(())
 }

@@ -2,7 +2,7 @@
 
 use crate::refusals::Refusal;
 use itoa::Buffer;
-use llvm_lines::Reason;
+use llvm_features::Reason;
 use std::alloc::{AllocError, Global};
 
 /// The lines of a refusal.

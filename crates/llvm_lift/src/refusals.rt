@@ -1,7 +1,7 @@
 //! Why a text is not lifted.
 
 use ir_types::Fault;
-use llvm_lines::Reason;
+use llvm_features::Reason;
 use std::alloc::{AllocError, AllocFailed};
 
 /// Why a text is not lifted.

@@ -1,98 +1,121 @@
 //! What a text declares, and what of it is used.
-ghost use Rattle.std.specs.Prelude.{◌≤◌, length};
+ghost use Rattle.std.specs.Prelude.{◌≡◌, IfOk};
+ghost use Rattle.std.specs.List.{All};
 
-use crate::rows::{begins, is_mark, is_word, name_of, put_tokens};
-use line_tokens::is_family_name;
+use crate::values::{first_global, name_of};
+use crate::writer::Writer;
+use line_tokens::{is_family_name, is_mark, is_word};
+use llvm_features::{Feature, Reason};
 use sp_ids::Memory;
-use sp_text::{Kind, Line, Lines, Token};
+use sp_text::{Kind, Line, Token};
 use std::alloc::Global;
 use std::collections::HashSet;
 
-/// An object that a text makes: the name of its layout, and the line of its declaration.
+/// A declaration: its line, and the function's name.
 #[derive(Clone, Copy)]
-pub struct Made<'a> {
-    pub line: u32,
-    pub layout: &'a [u8],
+pub(crate) struct Declaration<'a> {
+    pub(crate) line: Line<'a>,
+    pub(crate) name: &'a [u8],
 }
 
 /// What a text declares, and what of it is used.
 #[derive(Drop)]
-pub struct Declared<'a> {
+pub(crate) struct Declared<'a> {
     /// The functions that lines name which declare nothing.
-    pub used: HashSet<&'a [u8]>,
+    used: HashSet<&'a [u8]>,
     /// The layouts that stand.
-    pub layouts: HashSet<&'a [u8]>,
-    /// What `gc_new.T` is declared for.
-    pub made: Vec<Made<'a>>,
-    /// Whether it has statepoints.
-    pub is_rewritten: bool,
+    layouts: HashSet<&'a [u8]>,
+    declarations: Vec<Declaration<'a>>,
 }
 
-/// Goes over the text once.
-pub fn declared_in(alloc: Global, text: &[u8]) -> Result<Declared<'_>, Memory>
-    requires { length text.now ≤ 16777216 }
-{
-    let mut declared = Declared {
-        used: HashSet::new(alloc),
-        layouts: HashSet::new(alloc),
-        made: Vec::new(alloc),
-        is_rewritten: false,
-    };
-    let mut lines = Lines::of(text);
-    let mut row = Vec::new(alloc);
-    while let Some(line) = lines.next_line() {
-        put_tokens(&mut row, line)?;
-        note_line(&mut declared, line, row.as_slice())?;
-    }
-    Ok(declared)
-}
-
-fn note_line<'a>(
-    declared: &mut Declared<'a>,
-    line: Line<'a>,
-    tokens: &[Token<'a>],
-) -> Result<(), Memory> {
-    if let Some(layout) = layout_named(tokens) {
-        declared.layouts.insert(layout)?;
-        return Ok(());
-    }
-    if begins(tokens, b"declare") {
-        return note_declaration(declared, line, tokens);
-    }
-    note_used(declared, tokens)
-}
-
-fn note_declaration<'a>(
-    declared: &mut Declared<'a>,
-    line: Line<'a>,
-    tokens: &[Token<'a>],
-) -> Result<(), Memory> {
-    if let Some((name, _)) = crate::rows::first_global(tokens) {
-        if let Some(layout) = layout_made(name) {
-            declared.made.push(Made {
-                line: line.number,
-                layout,
-            })?;
+impl<'a> Declared<'a> {
+    pub(crate) fn new(alloc: Global) -> Declared<'a> {
+        Declared {
+            used: HashSet::new(alloc),
+            layouts: HashSet::new(alloc),
+            declarations: Vec::new(alloc),
         }
     }
-    Ok(())
-}
 
-fn note_used<'a>(declared: &mut Declared<'a>, tokens: &[Token<'a>]) -> Result<(), Memory> {
-    for token in tokens {
-        if token.kind == Kind::Global {
-            let name = name_of(token);
-            if is_family_name(name) {
-                declared.is_rewritten = true;
+    pub(crate) fn add_used(&mut self, name: &'a [u8]) -> Result<(), Memory> {
+        self.used.insert(name)?;
+        Ok(())
+    }
+
+    pub(crate) fn add_layout(&mut self, name: &'a [u8]) -> Result<(), Memory> {
+        self.layouts.insert(name)?;
+        Ok(())
+    }
+
+    /// Keeps a declaration: whether it is written is known where all lines are.
+    pub(crate) fn add_declaration(
+        &mut self,
+        line: Line<'a>,
+        tokens: &[Token<'a>],
+    ) -> Result<(), Memory> {
+        if let Some((name, _)) = first_global(tokens) {
+            self.declarations.push(Declaration { line, name })?;
+        }
+        Ok(())
+    }
+
+    // Whether something names it, and it is no intrinsic that is taken away.
+    fn is_needed(&self, declaration: &Declaration) -> bool {
+        let name = declaration.name;
+        (!name.starts_with(b"llvm.") || is_family_name(name)) && self.used.contains(&name)
+    }
+
+    /// Writes the declarations that are needed.
+    pub(crate) fn put_needed(&self, writer: &mut Writer) -> Result<(), Memory> {
+        for declaration in &self.declarations {
+            if self.is_needed(declaration) {
+                writer.line = declaration.line.number;
+                writer.bytes(declaration.line.bytes)?;
+                writer.end()?;
             }
-            declared.used.insert(name)?;
         }
+        Ok(())
     }
-    Ok(())
+
+    /// The layouts that lack: those of objects that are made.
+    pub(crate) fn missing(&self, alloc: Global) -> Result<HashSet<&'a [u8]>, Memory> {
+        let mut missing = HashSet::new(alloc);
+        for declaration in &self.declarations {
+            if let Some(layout) = layout_made(declaration.name) {
+                if self.is_needed(declaration) && !self.layouts.contains(&layout) {
+                    missing.insert(layout)?;
+                }
+            }
+        }
+        Ok(missing)
+    }
+
+    /// A reason for each declaration whose layout is missing and wasn't found.
+    pub(crate) fn reasons(
+        &self,
+        alloc: Global,
+        missing: &HashSet<&[u8]>,
+        found: &HashSet<&[u8]>,
+    ) -> Result<Vec<Reason>, Memory>
+        ensures { IfOk result (λ reasons. All (λ reason. reason.feature ≡ Feature.NoLayout) reasons.items) }
+    {
+        let mut reasons = Vec::new(alloc);
+        for declaration in &self.declarations {
+            if let Some(layout) = layout_made(declaration.name) {
+                if (&*missing).contains(&layout) && !(&*found).contains(&layout) {
+                    reasons.push(Reason {
+                        line: declaration.line.number,
+                        feature: Feature::NoLayout,
+                    })?;
+                }
+            }
+        }
+        Ok(reasons)
+    }
 }
 
 /// The name of the layout that a line has.
-pub fn layout_named<'a>(tokens: &[Token<'a>]) -> Option<&'a [u8]> {
+pub(crate) fn layout_named<'a>(tokens: &[Token<'a>]) -> Option<&'a [u8]> {
     match tokens {
         [name, equals, word, ..]
             if name.kind == Kind::Local && is_mark(equals, b"=") && is_word(word, b"type") => {
@@ -102,8 +125,8 @@ pub fn layout_named<'a>(tokens: &[Token<'a>]) -> Option<&'a [u8]> {
     }
 }
 
-/// The name of the layout of which a function of this name makes objects.
-pub fn layout_made(name: &[u8]) -> Option<&[u8]> {
+// The name of the layout of which a function of this name makes objects.
+fn layout_made(name: &[u8]) -> Option<&[u8]> {
     match name {
         [b'g', b'c', b'_', b'n', b'e', b'w', b'.', layout @ ..] => Some(layout),
         _ => None,

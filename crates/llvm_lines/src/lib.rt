@@ -1,19 +1,16 @@
-//! The lines that LLVM prints: what they have that the profile lacks, and what they are written as in the profile.
+//! The lines that LLVM prints: what they are written as in the profile, or the lines that have what the profile lacks.
 #![tactic(auto)]
 
+mod accesses;
 mod declared;
-mod features;
-pub mod laws;
+mod expanding;
 mod lifting;
 mod plain;
-mod rows;
-mod steps;
+mod values;
+mod whole;
 mod writer;
+mod zero_steps;
 
-pub use declared::{Declared, Made, declared_in, layout_named};
-pub use features::{Feature, Reason, feature_of, reasons_in};
-pub use lifting::lift_lines;
-pub use plain::plain_text;
-pub use rows::put_tokens;
-pub use steps::{Intrinsic, Operand, Step, steps_of};
-pub use writer::Writer;
+pub use plain::{is_plain, plain_text};
+pub use whole::{Lifted, lift_text};
+pub use zero_steps::without_zero_steps;

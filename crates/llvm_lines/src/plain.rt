@@ -1,42 +1,76 @@
 //! The same text in plainer spelling: names without quotes that need none, no comments, and no `$`, which begins the names of
 //! comdats.
-ghost use Rattle.std.specs.Prelude.{◌≤◌, length, IfOk, IfSome};
+ghost use Rattle.std.specs.Prelude.{◌≤◌, ◌<◌, length, IfOk, IfSome};
 
+use memchr::memchr3;
 use sp_ids::Memory;
 use std::alloc::Global;
+
+/// Whether the text has no spelling that [`plain_text`] changes but comments.
+pub fn is_plain(text: &[u8]) -> bool {
+    let mut before = b' ';
+    let mut left = text;
+    'places: while let Some((front, first, more)) = first_place(left) {
+        before = last_of(front, before);
+        if first == b'$' && !is_in_name(before) {
+            return false;
+        }
+        if first == b'"' && (before == b'%' || before == b'@') {
+            return false;
+        }
+        before = first;
+        left = more;
+    }
+    true
+}
+
+fn last_of(bytes: &[u8], before: u8) -> u8 {
+    match bytes {
+        [.., last] => *last,
+        [] => before,
+    }
+}
+
+// What stands before the first quote, `$` or `;`, that byte, and what stands behind it.
+fn first_place(bytes: &[u8]) -> Option<(&[u8], u8, &[u8])>
+    ensures { IfSome result (λ found. length found.2.now < length bytes.now) }
+{
+    let at = memchr3(b'"', b'$', b';', bytes)?;
+    if at < bytes.len() {
+        Some((&bytes[..at], bytes[at], &bytes[at + 1..]))
+    } else {
+        None
+    }
+}
 
 /// The text in plainer spelling, line by line.
 pub fn plain_text(alloc: Global, text: &[u8]) -> Result<Vec<u8>, Memory> {
     let mut out = Vec::new(alloc);
-    let mut before = b' ';
     let mut left = text;
-    while let [first, rest @ ..] = left {
-        left = push_next(&mut out, before, *first, rest)?;
-        before = *first;
+    'places: while let Some((front, first, more)) = first_place(left) {
+        out.extend_from_slice(front)?;
+        left = push_place(&mut out, first, more)?;
     }
+    out.extend_from_slice(left)?;
     Ok(out)
 }
 
-// Puts what stands next, and gives what is left.
-fn push_next<'a>(
-    out: &mut Vec<u8>,
-    before: u8,
-    first: u8,
-    rest: &'a [u8],
-) -> Result<&'a [u8], Memory>
+// Puts what stands at a place, and gives what is left.
+fn push_place<'a>(out: &mut Vec<u8>, first: u8, rest: &'a [u8]) -> Result<&'a [u8], Memory>
     ensures { IfOk result (λ left. length left.now ≤ length rest.now) }
 {
+    let before = last_of(out.as_slice(), b' ');
     match first {
-        b'%' | b'@' => {
-            out.push(first)?;
-            match quoted_name(rest) {
-                Some((name, behind)) => {
-                    out.extend_from_slice(name)?;
-                    Ok(behind)
-                }
-                None => Ok(rest),
+        b'"' if before == b'%' || before == b'@' => match quoted_name(rest) {
+            Some((name, behind)) => {
+                out.extend_from_slice(name)?;
+                Ok(behind)
             }
-        }
+            None => {
+                out.push(first)?;
+                push_quoted(out, rest)
+            }
+        },
         b'"' => {
             out.push(first)?;
             push_quoted(out, rest)
@@ -53,17 +87,14 @@ fn push_next<'a>(
     }
 }
 
-// A name between quotes that needs none, and what stands behind them.
+// A name that stands here before a quote and needs none, and what stands behind them.
 fn quoted_name(bytes: &[u8]) -> Option<(&[u8], &[u8])>
     ensures { IfSome result (λ found. length found.1.now ≤ length bytes.now) }
 {
-    let [b'"', inner @ ..] = bytes else {
-        return None;
-    };
-    let len = name_len(inner);
-    match (inner.first(), &inner[len..]) {
+    let len = name_len(bytes);
+    match (bytes.first(), &bytes[len..]) {
         (Some(first), [b'"', behind @ ..]) if !first.is_ascii_digit() => Some((
-            &inner[..len],
+            &bytes[..len],
             behind,
         )),
         _ => None,

@@ -1,5 +1,5 @@
 use Rattle.std.proofs.Common.{length}
 use Rattle.llvm_lines.proofs.plain.plain_text.Given as goal
 
-abbrev pub decreases-loop-left : goal.decreases-loop-left
-decreases-loop-left l = length l.left
+abbrev pub decreases-places : goal.decreases-places
+decreases-places l = length l.left

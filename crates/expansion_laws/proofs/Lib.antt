@@ -1,0 +1,4 @@
+pub mod PickLaws
+pub mod NumberLaws
+pub mod FunnelLaws
+pub mod Samples

@@ -1,8 +1,0 @@
-use Rattle.llvm_lines.proofs.PickLaws.{picks_one, picks_extreme}
-use Rattle.llvm_lines.proofs.laws.picks.Goals as goal
-
-pub returns-clause-one : goal.returns-clause-one
-returns-clause-one c = picks_one
-
-pub returns-clause-extreme : goal.returns-clause-extreme
-returns-clause-extreme c = picks_extreme

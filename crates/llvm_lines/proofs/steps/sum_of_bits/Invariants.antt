@@ -1,6 +1,0 @@
-use Rattle.std.proofs.Common.{◌≡◌}
-use Rattle.llvm_lines.specs.Expansions.{bits_summed}
-use Rattle.llvm_lines.proofs.steps.sum_of_bits.Given as goal
-
-abbrev pub invariant-loop-at : goal.invariant-loop-at
-invariant-loop-at l = l.steps.items ≡ bits_summed l.at

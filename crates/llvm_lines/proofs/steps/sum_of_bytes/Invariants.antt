@@ -1,6 +1,0 @@
-use Rattle.std.proofs.Common.{◌≡◌}
-use Rattle.llvm_lines.specs.Expansions.{bytes_summed}
-use Rattle.llvm_lines.proofs.steps.sum_of_bytes.Given as goal
-
-abbrev pub invariant-loop-at : goal.invariant-loop-at
-invariant-loop-at l = l.steps.items ≡ bytes_summed l.count l.at

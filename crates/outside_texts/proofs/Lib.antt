@@ -1,0 +1,2 @@
+pub mod PlacedLines
+pub mod Evidence
