@@ -177,10 +177,6 @@ given_is next value inst named same = ap (λ (b : Bool). let o : Option ℕ = if
 
 -- ---- operands that are the same
 
-pub agreed_on : (first : Option Operand) (operand : Operand) (operands : List Operand) → agrees first operand ≡ true → agreed first (operand ∷ operands) ≡ agreed (first_of first operand) operands
-agreed_on None operand operands is = refl
-agreed_on (Some first) operand operands is = ap (λ (b : Bool). b && agreed (Some first) operands) is
-
 pub agreed_not : (first : Option Operand) (operand : Operand) (operands : List Operand) → agrees first operand ≡ false → agreed first (operand ∷ operands) ≡ false
 agreed_not None operand operands is = absurd (false≢true (sym is))
 agreed_not (Some first) operand operands is = ap (λ (b : Bool). b && agreed (Some first) operands) is
