@@ -18,6 +18,7 @@ use Rattle.ir_ast.specs.Values.{Gives, outcome}
 use Rattle.ir_ast.specs.Faults.GroupShape.{number_at}
 use Rattle.ir_cfg.specs.DefiniteUses.{Defines, text_place}
 use Rattle.object_meaning.specs.Lines.{after_all, following, insts_in}
+use Rattle.object_meaning.proofs.LineLaws.{after_append}
 use Rattle.base_forms.specs.DerivedMarks.{derived_marks, uses_marked}
 use Rattle.base_forms.specs.Inserted.{has_inserted, inserted_number, is_merged, is_unequal, new_number}
 use Rattle.base_forms.specs.Lines.{operand_at}
@@ -28,7 +29,6 @@ use Rattle.base_definite.proofs.base_paths.GivesLaws.{defines_gives}
 use Rattle.base_laws.proofs.TypeLaws.{MarksPointers}
 use Rattle.base_laws.proofs.NumberLaws.{number_alone, number_behind, renaming_of}
 use Rattle.base_laws.proofs.LineLaws.{IsReady}
-use Rattle.base_laws.proofs.BlockLaws.{after_append}
 use Rattle.base_laws.proofs.FormLaws.{based_append, edges_based}
 use Rattle.base_definite.proofs.base_relations.GroupLaws.{start_number, text_now, value_is}
 use Rattle.base_definite.proofs.base_relations.ValueLaws.{merged_false, merged_true}

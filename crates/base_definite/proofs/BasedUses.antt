@@ -21,7 +21,8 @@ use Rattle.ir_ast.specs.Operands.{value_in, values_used}
 use Rattle.ir_ast.specs.Values.{Definition, Gives, argument, outcome}
 use Rattle.ir_ast.specs.Faults.PhiEdges.{is_phi}
 use Rattle.ir_ast.specs.Faults.GroupShape.{number_at}
-use Rattle.ir_cfg.specs.DefiniteUses.{Defines, Stands, Uses, UsesAreDefinite, by_entry, by_line, in_arguments, text_place}
+use Rattle.ir_cfg.specs.DefiniteUses.{Defines, Stands, UsesAreDefinite, by_entry, by_line, in_arguments, text_place}
+use Rattle.ir_cfg.proofs.UsedLaws.{use_within}
 use Rattle.object_meaning.specs.Lines.{after_all}
 use Rattle.base_forms.specs.DerivedMarks.{derived_marks, uses_marked}
 use Rattle.base_forms.specs.Inserted.{by_line as by_kind, inserted_number, is_merged, new_number, renumbered}
@@ -337,15 +338,10 @@ module _ (functions : ℕ → Renaming) (index : ℕ) (func : Function) (called 
   based_none _ _ _ _ (by_entry number place entry value phi operand label block stands one label_at operand_at value_at found) =
       λ high undefined. at_phi number place entry value phi operand label block stands one label_at operand_at value_at found high undefined
 
-  use_within : (line value number place : ℕ) → Uses (based func) line value number place → (block : BasicBlock) × (slice_get (based func).blocks number ≡ Some block) × (place ≤ length block.insts)
-  use_within _ _ _ _ (by_line number place value line stands no_phi used) =
-      let within = slice_get_within stands.block.insts place line stands.in_block in (stands.block, stands.in_function, omega arith)
-  use_within _ _ _ _ (by_entry number place entry value phi operand label block stands one label_at operand_at value_at found) = (block, found, omega arith)
-
   pub based_definite : UsesAreDefinite (based func)
   based_definite line value number place usage path leads = elim (cases_lt value (length func.args)) [
     | inl below ↦ in_arguments below
     | inr above ↦
-        let here = use_within line value number place usage in
+        let here = use_within (based func) line value number place usage in
         elim (meets_or_not (based func) value path number place here.0 leads here.1 here.2) [ inl meets ↦ meets | inr undefined ↦ absurd (based_none line value number place usage above undefined) ]
   ]

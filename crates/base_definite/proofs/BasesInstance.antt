@@ -17,21 +17,22 @@ use Rattle.ir_ast.specs.Values.{Definition, definition_name, definitions_of}
 use Rattle.ir_cfg.specs.DefiniteUses.{Uses}
 use Rattle.ir_cfg.specs.SourceModules.{IsSourceModule}
 use Rattle.ir_cfg.specs.TypedModules.{IsTypedFunction}
+use Rattle.ir_cfg.specs.Paths.{IsReached}
 use Rattle.base_forms.specs.Polls.{placed}
 use Rattle.base_forms.specs.Based.{base_table, based}
-use Rattle.base_laws.proofs.NumberLaws.{definition_count}
-use Rattle.base_laws.proofs.PlacedLaws.{definitions_placed, has_result}
+use Rattle.base_forms.proofs.PlacedLaws.{definitions_placed}
 use Rattle.base_laws.proofs.ReadyLaws.{renamings}
 use Rattle.base_laws.proofs.ShapeLaws.{in_shape}
 use Rattle.base_definite.specs.Comings.{DefinedSince}
 use Rattle.base_definite.specs.Paths.{HasDefiniteBases}
 use Rattle.base_definite.proofs.base_paths.StayLaws.{bases_stay}
-use Rattle.base_definite.specs.Relations.{IsReached, before}
+use Rattle.base_definite.specs.Relations.{before}
 use Rattle.base_definite.proofs.base_relations.TableInstance.{all_ready, table_has_bases}
 use Rattle.base_definite.specs.Statements.{BasedBasesStay, BasedHasDefiniteBases}
 use Rattle.base_definite.proofs.SpreadLaws.{IsFree}
 use Rattle.base_definite.proofs.NameLaws.{distinct_now}
 use Rattle.base_definite.proofs.DefiniteInstance.{definite_now}
+use Rattle.object_meaning.proofs.GivenLaws.{has_result, definition_count}
 
 module _ (content : ModuleContent) (source : IsSourceModule content) (number : ℕ) (func : Function) (found : slice_get content.funcs number ≡ Some func) where
   typed_function : IsTypedFunction Source func

@@ -9,7 +9,7 @@ use Rattle.ir_ast.specs.Blocks.{BasicBlock}
 use Rattle.ir_ast.specs.Funcs.{Function, instructions_of}
 use Rattle.ir_ast.specs.Faults.GroupShape.{number_at}
 use Rattle.ir_cfg.specs.DefiniteUses.{text_place}
-use Rattle.base_laws.proofs.PlacedLaws.{has_result}
+use Rattle.object_meaning.proofs.GivenLaws.{has_result}
 
 pub text_take : (blocks : List BasicBlock) (number place : ℕ) (block : BasicBlock) → slice_get blocks number ≡ Some block → place ≤ length block.insts
     → take (length (instructions_of (take number blocks)) + place) (instructions_of blocks) ≡ instructions_of (take number blocks) ++ take place block.insts

@@ -1,6 +1,7 @@
 pub mod MeetLaws
 pub mod ExpandLaws
 pub mod CutLaws
+pub mod LinePlaces
 pub mod PolledLaws
 pub mod BasedLaws
 pub mod UseLaws

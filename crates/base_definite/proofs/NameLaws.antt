@@ -3,6 +3,7 @@ use Rattle.std.proofs.Common.{◌≡◌, ℕ, ◌+◌, ◌≤◌, Bool, true, fa
 use Rattle.std.specs.Prelude.{Option, is_some, filter, count_by, unwrap_or}
 use Rattle.std.specs.List.{All, fold}
 use Rattle.std.proofs.lemmas.List.{length-append, length-map, map-append}
+use Rattle.std.proofs.lemmas.List.Elements.{All-head, All-tail}
 use Rattle.ir_ast.specs.declared.funcs.Arg.{Arg}
 use Rattle.ir_ast.specs.declared.ops.Pred.{Pred}
 use Rattle.ir_ast.specs.declared.ops.Pred.TheVariants as preds
@@ -15,15 +16,13 @@ use Rattle.ir_ast.specs.Lines.{LineOf}
 use Rattle.ir_ast.specs.Lists.{Distinct}
 use Rattle.ir_ast.specs.Values.{Definition, argument, definition_name, definitions_of, outcome}
 use Rattle.object_meaning.specs.Lines.{following}
+use Rattle.object_meaning.proofs.GivenLaws.{has_result, given_by, given_append}
 use Rattle.base_forms.specs.DerivedMarks.{derived_marks, uses_marked}
 use Rattle.base_forms.specs.Inserted.{by_line, is_merged, is_negated, is_unequal}
 use Rattle.base_forms.specs.Lines.{operand_at}
 use Rattle.base_forms.specs.Based.{based, based_insts, compared, kept_line, lines_for, negation, rank_of, same_call}
 use Rattle.renaming_laws.specs.Renamed.{Renaming}
-use Rattle.renaming_laws.proofs.ListLaws.{all_first, all_rest}
-use Rattle.base_laws.proofs.PlacedLaws.{has_result}
 use Rattle.base_laws.proofs.LineLaws.{IsReady}
-use Rattle.base_laws.proofs.BlockLaws.{given_append, given_by}
 use Rattle.base_definite.proofs.base_relations.GroupLaws.{text_is}
 use Rattle.base_definite.proofs.base_relations.ValueLaws.{merged_false, merged_true}
 use Rattle.base_definite.proofs.SpreadLaws.{IsFree, base_name, distinct_spread, inserted_names, same_name, spread}
@@ -136,7 +135,7 @@ module _ (func : Function) (marks : List Bool) where
   names_from functions (inst ∷ insts) done whole ready = by (is_some inst.result) refl (λ more whole_too. names_from functions insts more whole_too ready_rest)
     where
       ready_rest : All (IsReady functions func) insts
-      ready_rest = all_rest (IsReady functions func) inst insts ready
+      ready_rest = All-tail (IsReady functions func) inst insts ready
 
       together : (after : ℕ) → following (length done) inst ≡ after → names_by (based_insts func marks (length done) (inst ∷ insts))
           ≡ (inserted_for (length done) inst inst.op ++ own_name inst.result) ++ names_by (based_insts func marks after insts)
@@ -177,7 +176,7 @@ module _ (func : Function) (marks : List Bool) where
           ∙ sym (ap (spread merges negates (count_by merges done) (count_by negates done)) given_is)))))
       by false unnamed further =
           let given_is = given_named inst insts false unnamed in
-          let line = ((all_first (IsReady functions func) inst insts ready).typed).line in
+          let line = ((All-head (IsReady functions func) inst insts ready).typed).line in
           let bare = bare_names (length done) inst inst.op line unnamed in
           together (length done) (ap (λ (b : Bool). if b then length done + 1 else length done) unnamed)
           ∙ (ap (λ (b : Bool). (inserted_for (length done) inst inst.op ++ (if b then unwrap_or inst.result [] ∷ [] else [])) ++ names_by (based_insts func marks (length done) insts)) unnamed

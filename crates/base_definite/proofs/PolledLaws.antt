@@ -13,7 +13,7 @@ use Rattle.ir_ast.specs.Funcs.{Function, instructions_of}
 use Rattle.ir_cfg.specs.DefiniteUses.{Defines, Stands}
 use Rattle.object_meaning.specs.Lines.{insts_in, retreats}
 use Rattle.base_forms.specs.Polls.{front_poll, placed, placed_block, placed_from, poll_call, polled}
-use Rattle.base_laws.proofs.PlacedLaws.{block_placed, results_placed, results_polled}
+use Rattle.base_forms.proofs.PlacedLaws.{block_placed, results_placed, results_polled}
 use Rattle.base_laws.proofs.PollLaws.{graph_placed}
 use Rattle.base_definite.proofs.CutLaws.{number_cut, results_append, results_in, take_next}
 use Rattle.base_definite.proofs.ExpandLaws.{Expands}

@@ -5,12 +5,12 @@ use Rattle.std.specs.List.{All, Contains}
 use Rattle.std.specs.Fmt.{decimal}
 use Rattle.std.proofs.lemmas.Fmt.{decimal_injective}
 use Rattle.std.proofs.lemmas.Option.{slice_get_within}
+use Rattle.std.proofs.lemmas.List.Elements.{All-head, All-tail}
 use Rattle.list_laws.proofs.Contents.{all_at, contains_cons, contains_first, contains_get, contains_image, contains_later, contains_none, get_contained}
 use Rattle.ir_ast.specs.Lists.{Distinct}
 use Rattle.ir_ast.specs.Values.{Definition, definition_name}
 use Rattle.ir_ast.specs.Faults.Reserved.{IsInsertedName}
 use Rattle.base_forms.specs.Lines.{numbered_name}
-use Rattle.renaming_laws.proofs.ListLaws.{all_first, all_rest}
 
 -- ---- lists without repeats
 
@@ -127,10 +127,10 @@ module _ (merges negates : Definition → Bool) where
       (λ more fewer one another. distinct_spread all (bases + more) (sames + fewer) (omega arith) (omega arith) (distinct_rest (definition_name given) (map definition_name all) apart) rest_free)
     where
       first_free : IsFree given
-      first_free = all_first IsFree given all free
+      first_free = All-head IsFree given all free
 
       rest_free : All IsFree all
-      rest_free = all_rest IsFree given all free
+      rest_free = All-tail IsFree given all free
 
       own_fresh : (more fewer : ℕ) → From (bases + more) (sames + fewer) all (definition_name given) → ⊥
       own_fresh more fewer (named inside) = distinct_first (definition_name given) (map definition_name all) apart inside

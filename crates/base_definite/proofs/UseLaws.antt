@@ -2,7 +2,7 @@
 use Rattle.std.proofs.Common.{◌≡◌, ℕ, zero, suc, Bool, true, false, if◌then◌else◌, List, [], ◌∷◌, ◌++◌, map, refl, sym, ap, subst, ◌∙◌, ◌⊎◌, inl, inr, append-nil}
 use Rattle.std.specs.Prelude.{Option, Some, is_some, slice_get, slice_index_or, codes}
 use Rattle.std.specs.List.{All, Contains, filter_map}
-use Rattle.std.proofs.lemmas.List.Elements.{All-cons, All-nil}
+use Rattle.std.proofs.lemmas.List.Elements.{All-cons, All-nil, All-head, All-tail}
 use Rattle.list_laws.proofs.Places.{filter_map_forth, get_front, map_back}
 use Rattle.list_laws.proofs.Contents.{all_from_at, contains_cons, contains_get, contains_image, contains_none}
 use Rattle.sp_ids.specs.declared.ids.ValueId.{ValueId}
@@ -25,7 +25,6 @@ use Rattle.base_forms.specs.Bases.{base_of, own_base}
 use Rattle.base_forms.specs.Lines.{merged_bases, numbered_name, operand_at}
 use Rattle.base_forms.specs.Based.{base_line, check, compared, insertion, kept_line, lines_for, negation, rank_of, same_call}
 use Rattle.base_forms.proofs.OriginLaws.{origin-own}
-use Rattle.renaming_laws.proofs.ListLaws.{all_first, all_rest}
 use Rattle.base_definite.proofs.base_relations.ValueLaws.{merged_false, merged_true, used_now}
 
 module _ (func : Function) (marks : List Bool) where
@@ -87,7 +86,7 @@ module _ (func : Function) (marks : List Bool) where
 
     named_in : (all : List Operand) → All IsGood all → (value : ℕ) → Contains (filter_map value_in all) value → Names value
     named_in [] good value inside = absurd (contains_none value inside)
-    named_in (operand ∷ all) good value inside = by operand (all_first IsGood operand all good) inside (λ more. named_in all (all_rest IsGood operand all good) value more)
+    named_in (operand ∷ all) good value inside = by operand (All-head IsGood operand all good) inside (λ more. named_in all (All-tail IsGood operand all good) value more)
       where
         by : (operand : Operand) → IsGood operand → Contains (filter_map value_in (operand ∷ all)) value → (Contains (filter_map value_in all) value → Names value) → Names value
         by (operands.Value id) here inside further = elim (contains_cons id.0 value (filter_map value_in all) inside) [

@@ -7,11 +7,12 @@ use Rattle.ir_ast.specs.Modules.{ModuleContent}
 use Rattle.ir_ast.specs.Bases.{Base}
 use Rattle.ir_cfg.specs.DefiniteUses.{Uses, UsesAreDefinite}
 use Rattle.ir_cfg.specs.SourceModules.{IsSourceModule}
+use Rattle.ir_cfg.specs.Paths.{IsReached}
 use Rattle.base_forms.specs.Polls.{placed}
 use Rattle.base_forms.specs.Based.{based, based_module}
 use Rattle.base_definite.specs.Comings.{DefinedSince}
 use Rattle.base_definite.specs.Paths.{HasDefiniteBases}
-use Rattle.base_definite.specs.Relations.{IsReached, before}
+use Rattle.base_definite.specs.Relations.{before}
 
 -- in the module with bases every path to a use meets the definition before it
 abbrev pub BasedIsDefinite : Type 0

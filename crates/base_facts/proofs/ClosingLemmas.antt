@@ -11,7 +11,7 @@ use Rattle.ir_ast.specs.Funcs.{Function}
 use Rattle.ir_cfg.specs.Graphs.{graph_of, Edge}
 use Rattle.ir_cfg.specs.Paths.{Path, Reached}
 use Rattle.ir_cfg.specs.Paths.{at_entry as at_start, along as further}
-use Rattle.ir_cfg.proofs.PathLemmas.{reached_by, edge_within}
+use Rattle.ir_cfg.proofs.PathLemmas.{edge_within}
 use Rattle.object_meaning.specs.Lines.{Line}
 use Rattle.object_meaning.specs.Frames.{is_member}
 use Rattle.object_meaning.specs.Jumps.{phi_count}
@@ -20,6 +20,7 @@ use Rattle.pair_facts.specs.Pairs.{Pairs, at_entry, along, base_along, on_edge}
 use Rattle.pair_facts.specs.Paths.{pairs_at, pairs_at_end, Arrives, start, went}
 use Rattle.pair_facts.proofs.FreshLaws.{IsSound, pairs_sound, arrives_sound}
 use Rattle.pair_facts.proofs.PlaceLaws.{pairs_from_front}
+use Rattle.pair_facts.proofs.PathLaws.{arrives_reached}
 use Rattle.base_facts.specs.declared.facts.Pointer.TheVariants as pointers
 use Rattle.base_facts.specs.declared.facts.Fact.{Fact}
 use Rattle.base_facts.specs.declared.search.Asked.{Asked}
@@ -45,10 +46,6 @@ path_arrives func _ _ (further blocks from to path edge) =
 
 pub reached_arrives : (func : Function) (block : ℕ) → Reached (graph_of func) block → IsReached func block
 reached_arrives func block reached = path_arrives func reached.0 block reached.1
-
-pub arrives_reached : (func : Function) (block : ℕ) (front : Pairs) → Arrives func block front → Reached (graph_of func) block
-arrives_reached func _ _ start = (0 ∷ [], at_start)
-arrives_reached func _ _ (went from to front arrives edge) = reached_by (graph_of func) from to (arrives_reached func from front arrives) edge
 
 pub length-graph_of : (func : Function) → length (graph_of func) ≡ length func.blocks
 length-graph_of func = length-map func.blocks targets

@@ -17,6 +17,7 @@ use Rattle.pair_facts.specs.Lines.{lines_at, phis_in}
 use Rattle.pair_facts.specs.Pairs.{Pairs, at_entry, on_edge}
 use Rattle.pair_facts.specs.Paths.{pairs_at_end, Arrives, start, went}
 use Rattle.pair_facts.proofs.FreshLaws.{IsSound, pairs_sound, arrives_sound}
+use Rattle.pair_facts.proofs.PathLaws.{arrives_reached}
 use Rattle.ir_cfg.specs.Paths.{Reached}
 use Rattle.base_facts.specs.declared.asks.Ask.{Ask}
 use Rattle.base_facts.specs.declared.asks.Found.{Found}
@@ -33,7 +34,7 @@ use Rattle.base_facts.specs.Found.{ask_holds, IsFound, HasFound, IsFoundFact, Ha
 use Rattle.base_facts.proofs.StepLemmas.{fact_holds, IsAt, fact_stands_at}
 use Rattle.base_facts.proofs.AskedLemmas.{grows_not}
 use Rattle.base_facts.proofs.SourceLemmas.{Passes, passes_start, passes_more, passes_holds}
-use Rattle.base_facts.proofs.ClosingLemmas.{front_holds, one_fact, pair_along, arrives_reached}
+use Rattle.base_facts.proofs.ClosingLemmas.{front_holds, one_fact, pair_along}
 use Rattle.list_laws.proofs.Zips.{zip_pushed, zip_weaker}
 
 -- ---- the graph of askers

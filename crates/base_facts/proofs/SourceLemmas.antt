@@ -20,6 +20,7 @@ use Rattle.pair_facts.specs.Segments.{start_at}
 use Rattle.pair_facts.proofs.FreshLaws.{arrives_sound}
 use Rattle.pair_facts.proofs.OwnLaws.{arrives_own}
 use Rattle.pair_facts.proofs.PlaceLaws.{Leaves, LeavesBase, pairs_from_front}
+use Rattle.pair_facts.proofs.PathLaws.{arrives_reached}
 use Rattle.fact_tables.specs.declared.homes.Home.{Home}
 use Rattle.fact_tables.specs.Homes.{GivesAt, home_at, home_in, KnowsHomes}
 use Rattle.fact_tables.proofs.TableLemmas.{home_found, gives_inside}
@@ -36,7 +37,7 @@ use Rattle.base_facts.specs.Closing.{CanAsk, HasClosed, from_source}
 use Rattle.base_facts.specs.Sources.{Names, IsHomeBlock, AreNames, IsSource, IsLast}
 use Rattle.base_facts.proofs.SettleLemmas.{before_group, value_lost}
 use Rattle.base_facts.proofs.EdgeLemmas.{along_other}
-use Rattle.base_facts.proofs.ClosingLemmas.{reached_arrives, arrives_reached, front_holds, one_fact}
+use Rattle.base_facts.proofs.ClosingLemmas.{reached_arrives, front_holds, one_fact}
 
 -- ---- a value that a block doesn't give
 

@@ -1,4 +1,5 @@
 pub mod MarkLaws
 pub mod OriginLaws
 pub mod DerivedLaws
+pub mod PlacedLaws
 mod Samples

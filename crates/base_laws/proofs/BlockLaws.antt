@@ -1,15 +1,13 @@
 -- The lines of a function with bases are the images of its lines, block by block; and how many registers it has.
-use Rattle.std.proofs.Common.{◌≡◌, ℕ, zero, suc, ◌+◌, ◌-◌, Bool, true, false, if◌then◌else◌, List, [], ◌∷◌, ◌++◌, length, map, drop, refl, sym, ap, subst, ◌∙◌, append_assoc, append-nil, arith}
-use Rattle.std.specs.Prelude.{Option, Some, is_some, slice_get, slice_index, filter, count_by}
+use Rattle.std.proofs.Common.{◌≡◌, ℕ, zero, suc, ◌+◌, Bool, List, [], ◌∷◌, ◌++◌, length, drop, refl, sym, ap, subst, ◌∙◌, append_assoc}
+use Rattle.std.specs.Prelude.{Option, Some, slice_get, slice_index, count_by}
 use Rattle.std.specs.List.{All}
-use Rattle.std.proofs.lemmas.List.{length-map, map-append}
-use Rattle.std.proofs.lemmas.List.Elements.{filter-append}
-use Rattle.std.proofs.Math.Seq.{drop-append_seam}
+use Rattle.std.proofs.lemmas.List.Elements.{All-head, All-tail}
 use Rattle.list_laws.proofs.Contents.{all_back, all_front}
 use Rattle.ir_ast.specs.Insts.{Instruction}
 use Rattle.ir_ast.specs.Blocks.{BasicBlock}
 use Rattle.ir_ast.specs.Funcs.{Function, instructions_of}
-use Rattle.ir_ast.specs.Values.{Definition, argument, definitions_of, outcome}
+use Rattle.ir_ast.specs.Values.{Definition, definitions_of}
 use Rattle.object_meaning.specs.Lines.{Line, after_all, first_registers, following, numbered}
 use Rattle.object_meaning.specs.TargetRuns.{plain_lines}
 use Rattle.base_forms.specs.DerivedMarks.{derived_marks}
@@ -18,50 +16,17 @@ use Rattle.base_forms.specs.Based.{based_blocks, based_insts, lines_for}
 use Rattle.renaming_laws.specs.Renamed.{Renaming}
 use Rattle.renaming_laws.specs.Inserted.{Image}
 use Rattle.renaming_laws.specs.Images.{Images, more_lines, no_lines}
-use Rattle.renaming_laws.proofs.ListLaws.{all_first, all_rest}
-use Rattle.base_laws.proofs.PlacedLaws.{has_result}
 use Rattle.base_laws.proofs.TypeLaws.{MarksPointers}
-use Rattle.base_laws.proofs.NumberLaws.{definition_count, first_keeps, renaming_of, shift_last}
+use Rattle.base_laws.proofs.NumberLaws.{first_keeps, renaming_of, shift_last}
 use Rattle.base_laws.proofs.LineLaws.{IsReady, line_made, line_of}
-use Rattle.list_laws.proofs.Places.{drop_first}
 use Rattle.object_meaning.proofs.LineLaws.{after_append}
-pub use Rattle.object_meaning.proofs.LineLaws.{after_append, last_register}
+use Rattle.object_meaning.proofs.GivenLaws.{after_is, definition_count, drop_all, drop_given, given_append, given_by, results_last}
 
--- ---- registers
+-- ---- lines one after another
 
 plain_append : (next : ℕ) (xs ys : List Instruction) → plain_lines next (xs ++ ys) ≡ plain_lines next xs ++ plain_lines (after_all next xs) ys
 plain_append next [] ys = refl
 plain_append next (x ∷ xs) ys = ap (λ rest. numbered next x ∷ rest) (plain_append (following next x) xs ys)
-
-pub after_is : (next : ℕ) (insts : List Instruction) → after_all next insts ≡ next + length (filter has_result insts)
-after_is next [] = omega arith
-after_is next (inst ∷ insts) = by (is_some inst.result) (λ n. after_is n insts)
-  where
-    by : (b : Bool) → ((n : ℕ) → after_all n insts ≡ n + length (filter has_result insts))
-        → after_all (if b then next + 1 else next) insts ≡ next + length (if b then inst ∷ filter has_result insts else filter has_result insts)
-    by true rest = let is = rest (next + 1) in omega arith
-    by false rest = rest next
-
--- ---- which definitions come next
-
-abbrev pub given_by : List Instruction → List Definition
-given_by insts = map outcome (filter has_result insts)
-
-pub given_append : (xs ys : List Instruction) → given_by (xs ++ ys) ≡ given_by xs ++ given_by ys
-given_append xs ys = ap (map outcome) (filter-append has_result xs ys) ∙ map-append outcome (filter has_result xs) (filter has_result ys)
-
-drop_given : (all : List Definition) (next : ℕ) (inst : Instruction) (insts : List Instruction) (after : List Definition) → drop next all ≡ given_by (inst ∷ insts) ++ after
-    → (is_some inst.result ≡ true → slice_get all next ≡ Some (outcome inst)) × (drop (following next inst) all ≡ given_by insts ++ after)
-drop_given all next inst insts after is = by (is_some inst.result) is
-  where
-    by : (b : Bool) → drop next all ≡ map outcome (if b then inst ∷ filter has_result insts else filter has_result insts) ++ after
-        → (b ≡ true → slice_get all next ≡ Some (outcome inst)) × (drop (if b then next + 1 else next) all ≡ given_by insts ++ after)
-    by true from = let found = drop_first all next (outcome inst) (given_by insts ++ after) from in (λ named. found.0, found.1)
-    by false from = (λ named. absurd cc, from)
-
-drop_all : (all : List Definition) (next : ℕ) (insts : List Instruction) (after : List Definition) → drop next all ≡ given_by insts ++ after → drop (after_all next insts) all ≡ after
-drop_all all next [] after is = is
-drop_all all next (inst ∷ insts) after is = drop_all all (following next inst) insts after (drop_given all next inst insts after is).1
 
 -- ---- the images
 
@@ -80,17 +45,17 @@ module _ (functions : ℕ → Renaming) (number : ℕ) (func : Function) (called
   after_based next [] after given ready = refl
   after_based next (inst ∷ insts) after given ready =
       let here = drop_given (definitions_of func) next inst insts after given in
-      let made = line_made func called next inst here.0 (all_first (IsReady functions func) inst insts ready).typed pointers in
+      let made = line_made func called next inst here.0 (All-head (IsReady functions func) inst insts ready).typed pointers in
       after_append (shift next) (lines_for func (derived_marks func) next inst inst.op) (based_from (following next inst) insts)
       ∙ (ap (λ n. after_all n (based_from (following next inst) insts)) made.after
-      ∙ after_based (following next inst) insts after here.1 (all_rest (IsReady functions func) inst insts ready))
+      ∙ after_based (following next inst) insts after here.1 (All-tail (IsReady functions func) inst insts ready))
 
   images_insts : (next : ℕ) (insts : List Instruction) (after : List Definition) → drop next (definitions_of func) ≡ given_by insts ++ after → Ready insts
       → Images functions number (plain_lines next insts) (plain_lines (shift next) (based_from next insts))
   images_insts next [] after given ready = no_lines
   images_insts next (inst ∷ insts) after given ready =
       let here = drop_given (definitions_of func) next inst insts after given in
-      let first = all_first (IsReady functions func) inst insts ready in
+      let first = All-head (IsReady functions func) inst insts ready in
       let made = line_made func called next inst here.0 first.typed pointers in
       let behind = ap (λ n. plain_lines n (based_from (following next inst) insts)) made.after in
       subst (λ (lines : List Line). Images functions number (plain_lines next (inst ∷ insts)) lines)
@@ -101,7 +66,7 @@ module _ (functions : ℕ → Renaming) (number : ℕ) (func : Function) (called
       (plain_lines (shift (following next inst)) (based_from (following next inst) insts))
       (line_of functions number func called is next inst first here.0)
       (subst (λ (r : Renaming). Image r (numbered next inst) (plain_lines (shift next) (lines_for func (derived_marks func) next inst inst.op))) (sym is) made.image)
-      (images_insts (following next inst) insts after here.1 (all_rest (IsReady functions func) inst insts ready)))
+      (images_insts (following next inst) insts after here.1 (All-tail (IsReady functions func) inst insts ready)))
 
   -- a block and the one that it becomes
   pub record BlockMade (registers others : List ℕ) (now : Option BasicBlock) (place : ℕ) (block : BasicBlock) : Type 0 where
@@ -155,11 +120,6 @@ module _ (functions : ℕ → Renaming) (number : ℕ) (func : Function) (called
                 (sym next_is) rest.images;
           }
 
-  pub start : drop (length func.args) (definitions_of func) ≡ given_by (instructions_of func.blocks) ++ []
-  start =
-      ap (λ n. drop n (definitions_of func)) (sym (length-map func.args argument))
-      ∙ (drop-append_seam (map argument func.args) (given_by (instructions_of func.blocks)) ∙ sym (append-nil (given_by (instructions_of func.blocks))))
-
   abbrev now_blocks : List BasicBlock
   now_blocks = based_blocks func (derived_marks func) (length func.args) func.blocks
 
@@ -168,7 +128,7 @@ module _ (functions : ℕ → Renaming) (number : ℕ) (func : Function) (called
       → BlockMade (first_registers (length func.args) func.blocks) (first_registers (length func.args) now_blocks) (slice_get now_blocks place) place block
   based_block ready place block found =
       subst (λ (n : ℕ). BlockMade (first_registers (length func.args) func.blocks) (first_registers n now_blocks) (slice_get now_blocks place) place block) (first_keeps func)
-      (block_made (length func.args) func.blocks [] start ready place block found)
+      (block_made (length func.args) func.blocks [] (results_last func) ready place block found)
 
   after_blocks : (next : ℕ) (blocks : List BasicBlock) (after : List Definition) → drop next (definitions_of func) ≡ given_by (instructions_of blocks) ++ after
       → Ready (instructions_of blocks)
@@ -193,4 +153,4 @@ module _ (functions : ℕ → Renaming) (number : ℕ) (func : Function) (called
       → after_all (length func.args) (instructions_of now_blocks) ≡ length (definitions_of func) + count_by (has_inserted (derived_marks func)) (definitions_of func)
   now_room_is ready =
       ap (λ n. after_all n (instructions_of now_blocks)) (sym (first_keeps func))
-      ∙ (after_blocks (length func.args) func.blocks [] start ready ∙ (ap shift room_is ∙ shift_last func))
+      ∙ (after_blocks (length func.args) func.blocks [] (results_last func) ready ∙ (ap shift room_is ∙ shift_last func))

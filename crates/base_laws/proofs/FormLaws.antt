@@ -3,7 +3,7 @@ use Rattle.std.proofs.Common.{◌≡◌, ℕ, zero, suc, ◌+◌, ◌<◌, Bool,
 use Rattle.std.specs.Prelude.{Option, Some, slice_get, nat_le}
 use Rattle.std.specs.List.{All, flat_map, list_all, list_any}
 use Rattle.std.proofs.lemmas.Grind.{flat_map-append}
-use Rattle.std.proofs.lemmas.List.Elements.{All-cons, All-nil}
+use Rattle.std.proofs.lemmas.List.Elements.{All-cons, All-nil, All-head, All-tail}
 use Rattle.list_laws.proofs.Contents.{all_back, all_front}
 use Rattle.sp_ids.specs.declared.ids.BlockId.{BlockId}
 use Rattle.ir_ast.specs.declared.ops.Pred.{Pred}
@@ -23,7 +23,6 @@ use Rattle.base_forms.specs.Polls.{front_poll, placed_block, poll_call, polled}
 use Rattle.base_forms.specs.DerivedMarks.{uses_marked}
 use Rattle.base_forms.specs.Inserted.{is_merged}
 use Rattle.base_forms.specs.Based.{base_line, based_blocks, based_insts, check, compared, kept_line, lines_for, merged, negation, same_call}
-use Rattle.renaming_laws.proofs.ListLaws.{all_first, all_rest}
 use Rattle.base_laws.specs.BeforeLiveness.{PhisStandFirst}
 use Rattle.std.proofs.lemmas.Bool.{not-true, not_from_false}
 use Rattle.ir_ast.proofs.OpLaws.{phi_goes_on}
@@ -89,7 +88,7 @@ all_true_append test (x ∷ xs) ys first second = by (test x) first (λ rest. al
 
 all_true_of : {A : Type 0} (test : A → Bool) (xs : List A) → All (λ x. test x ≡ true) xs → list_all test xs ≡ true
 all_true_of test [] all = refl
-all_true_of test (x ∷ xs) all = ap (λ b. b && list_all test xs) (all_first (λ y. test y ≡ true) x xs all) ∙ all_true_of test xs (all_rest (λ y. test y ≡ true) x xs all)
+all_true_of test (x ∷ xs) all = ap (λ b. b && list_all test xs) (All-head (λ y. test y ≡ true) x xs all) ∙ all_true_of test xs (All-tail (λ y. test y ≡ true) x xs all)
 
 true_first : (a b : Bool) → a && b ≡ true → a ≡ true
 true_first true b both = refl
@@ -183,15 +182,15 @@ module _ (func : Function) (marks : List Bool) where
 
   all_append : (P : Instruction → Type 0) (xs ys : List Instruction) → All P xs → All P ys → All P (xs ++ ys)
   all_append P [] ys first second = second
-  all_append P (x ∷ xs) ys first second = All-cons P x (xs ++ ys) (all_first P x xs first) (all_append P xs ys (all_rest P x xs first) second)
+  all_append P (x ∷ xs) ys first second = All-cons P x (xs ++ ys) (All-head P x xs first) (all_append P xs ys (All-tail P x xs first) second)
 
   -- what holds of each line for each instruction
   pub all_based : (P Q : Instruction → Type 0) → ((next : ℕ) (inst : Instruction) → Q inst → All P (lines_for func marks next inst inst.op))
       → (next : ℕ) (insts : List Instruction) → All Q insts → All P (based_insts func marks next insts)
   all_based P Q each next [] all = All-nil P
   all_based P Q each next (inst ∷ insts) all =
-      all_append P (lines_for func marks next inst inst.op) (based_insts func marks (following next inst) insts) (each next inst (all_first Q inst insts all))
-      (all_based P Q each (following next inst) insts (all_rest Q inst insts all))
+      all_append P (lines_for func marks next inst inst.op) (based_insts func marks (following next inst) insts) (each next inst (All-head Q inst insts all))
+      (all_based P Q each (following next inst) insts (All-tail Q inst insts all))
 
   pub all_based_blocks : (P Q : Instruction → Type 0) → ((next : ℕ) (inst : Instruction) → Q inst → All P (lines_for func marks next inst inst.op))
       → (next : ℕ) (blocks : List BasicBlock) → All Q (instructions_of blocks) → All P (instructions_of (based_blocks func marks next blocks))

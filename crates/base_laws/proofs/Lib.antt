@@ -1,5 +1,4 @@
 pub mod CountLaws
-pub mod PlacedLaws
 pub mod TypeLaws
 pub mod NumberLaws
 pub mod LineLaws

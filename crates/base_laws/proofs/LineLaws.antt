@@ -5,7 +5,7 @@ use Rattle.std.specs.List.{All, filter_map}
 use Rattle.std.specs.Option.{option_map, IfSome}
 use Rattle.std.proofs.lemmas.Bool.Decides.{nat_tests}
 use Rattle.std.proofs.lemmas.List.{length-drop}
-use Rattle.std.proofs.lemmas.List.Elements.{All-cons, All-nil}
+use Rattle.std.proofs.lemmas.List.Elements.{All-cons, All-nil, All-head, All-tail}
 use Rattle.std.proofs.lemmas.Option.{slice_get_within}
 use Rattle.list_laws.proofs.Contents.{all_back, all_front}
 use Rattle.sp_ids.specs.declared.ids.BlockId.{BlockId}
@@ -37,7 +37,6 @@ use Rattle.base_forms.specs.Lines.{operand_at}
 use Rattle.base_forms.specs.Based.{base_line, check, compared, kept_line, lines_for, negation, same_call}
 use Rattle.renaming_laws.specs.Renamed.{ArgumentsFit, InRoom, IsLineOf, Leads, Renaming, renamed, renamed_line}
 use Rattle.renaming_laws.specs.Inserted.{Image, alone, as_negated, as_same, behind_check, behind_merge, check_line, negated_line, pointer_place, same_line}
-use Rattle.renaming_laws.proofs.ListLaws.{all_first, all_rest}
 use Rattle.base_laws.proofs.TypeLaws.{IsTypedLine, MarksPointers, compares_pointers}
 use Rattle.base_laws.proofs.NumberLaws.{number_alone, number_behind, renaming_of, shift_is_fresh, shift_next, shift_within}
 
@@ -285,8 +284,8 @@ module _ (func : Function) (called : Bool) (next : ℕ) (inst : Instruction)
 known_operands : (room : ℕ) (all : List Operand) → All (λ value. value < room) (filter_map value_in all) → All (InRoom room) all
 known_operands room [] known = All-nil (InRoom room)
 known_operands room (operands.Value id ∷ all) known =
-    All-cons (InRoom room) (operands.Value id) all (all_first (λ value. value < room) id.0 (filter_map value_in all) known)
-    (known_operands room all (all_rest (λ value. value < room) id.0 (filter_map value_in all) known))
+    All-cons (InRoom room) (operands.Value id) all (All-head (λ value. value < room) id.0 (filter_map value_in all) known)
+    (known_operands room all (All-tail (λ value. value < room) id.0 (filter_map value_in all) known))
 known_operands room (operands.Int literal ∷ all) known = All-cons (InRoom room) (operands.Int literal) all tt (known_operands room all known)
 known_operands room (operands.Null ∷ all) known = All-cons (InRoom room) operands.Null all tt (known_operands room all known)
 known_operands room (operands.Fun named ∷ all) known = All-cons (InRoom room) (operands.Fun named) all tt (known_operands room all known)
@@ -294,14 +293,14 @@ known_operands room (operands.Fun named ∷ all) known = All-cons (InRoom room) 
 known_bundle : (room : ℕ) (bundle : List (Ty × Operand)) → All (InRoom room) (map (λ (entry : Ty × Operand). entry.1) bundle) → All (λ (entry : Ty × Operand). InRoom room entry.1) bundle
 known_bundle room [] known = All-nil (λ (entry : Ty × Operand). InRoom room entry.1)
 known_bundle room (entry ∷ bundle) known =
-    All-cons (λ (each : Ty × Operand). InRoom room each.1) entry bundle (all_first (InRoom room) entry.1 (map (λ (each : Ty × Operand). each.1) bundle) known)
-    (known_bundle room bundle (all_rest (InRoom room) entry.1 (map (λ (each : Ty × Operand). each.1) bundle) known))
+    All-cons (λ (each : Ty × Operand). InRoom room each.1) entry bundle (All-head (InRoom room) entry.1 (map (λ (each : Ty × Operand). each.1) bundle) known)
+    (known_bundle room bundle (All-tail (InRoom room) entry.1 (map (λ (each : Ty × Operand). each.1) bundle) known))
 
 -- a label of a line that leaves the entry leads elsewhere
 label_leads : (labels : List BlockId) (place : ℕ) → All (λ label. label.0 ≢ 0) labels → place < length labels → not (label_at labels place == 0) ≡ true
 label_leads [] place elsewhere below = absurd (omega arith)
-label_leads (label ∷ labels) zero elsewhere below = let differs = all_first (λ (each : BlockId). each.0 ≢ 0) label labels elsewhere in grind (arith, nat_tests)
-label_leads (label ∷ labels) (suc place) elsewhere below = label_leads labels place (all_rest (λ (each : BlockId). each.0 ≢ 0) label labels elsewhere) (omega arith)
+label_leads (label ∷ labels) zero elsewhere below = let differs = All-head (λ (each : BlockId). each.0 ≢ 0) label labels elsewhere in grind (arith, nat_tests)
+label_leads (label ∷ labels) (suc place) elsewhere below = label_leads labels place (All-tail (λ (each : BlockId). each.0 ≢ 0) label labels elsewhere) (omega arith)
 
 leads_of : (inst : Instruction) → IsLine inst → LeavesEntry inst → (op : Op) → inst.op ≡ op → Leads (λ block. not (block == 0)) op inst.operands inst.labels
 leads_of inst line leaves ops.Br is =

@@ -24,7 +24,7 @@ use Rattle.base_forms.specs.Based.{based, based_blocks, based_module}
 use Rattle.renaming_laws.specs.Images.{HasImages, Images, no_lines}
 use Rattle.renaming_laws.proofs.ImageLaws.{images_give_the_same}
 use Rattle.base_laws.specs.Statements.{BasesKeepMeaning}
-use Rattle.base_laws.proofs.PlacedLaws.{block_placed, plain_polled, registers_placed}
+use Rattle.base_forms.proofs.PlacedLaws.{block_placed, plain_polled, registers_placed}
 use Rattle.base_laws.proofs.TypeLaws.{IsTypedLine, MarksPointers, derived_are_pointers}
 use Rattle.base_laws.proofs.NumberLaws.{is_renaming, renaming_of}
 use Rattle.base_laws.proofs.LineLaws.{IsReady}

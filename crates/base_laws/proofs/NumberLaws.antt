@@ -1,7 +1,6 @@
 -- The numbers that values have once lines with results are inserted before them.
 use Rattle.std.proofs.Common.{◌≡◌, ◌==◌, ℕ, zero, suc, ◌+◌, ◌<◌, ◌≤◌, Bool, true, false, not, List, [], ◌∷◌, ◌++◌, length, map, take, refl, sym, ap, ◌∙◌, arith}
 use Rattle.std.specs.Prelude.{Some, slice_get, count_by, filter}
-use Rattle.std.proofs.lemmas.List.{length-append, length-map}
 use Rattle.std.proofs.lemmas.Option.{slice_get_within}
 use Rattle.ir_ast.specs.declared.funcs.Arg.{Arg}
 use Rattle.ir_ast.specs.Funcs.{Function, instructions_of}
@@ -11,7 +10,7 @@ use Rattle.base_forms.specs.Inserted.{has_inserted, inserted_number, new_number}
 use Rattle.renaming_laws.specs.Renamed.{IsRenaming, Renaming}
 use Rattle.renaming_laws.specs.Inserted.{IsFresh}
 use Rattle.base_laws.proofs.CountLaws.{before_is_fresh, count, count_is, count_next, count_next_not, count_whole, number_before, number_of, number_within, numbers_apart}
-use Rattle.base_laws.proofs.PlacedLaws.{has_result}
+use Rattle.object_meaning.proofs.GivenLaws.{has_result, definition_count}
 
 -- a function whose values get their new numbers; its jumps enter each block but the first
 abbrev pub renaming_of : Bool → Function → Renaming
@@ -60,13 +59,6 @@ module _ (func : Function) where
       let none = none_in_arguments func.args results (length func.args) (omega arith) in
       omega arith
 
-  pub definition_count : length (definitions_of func) ≡ length func.args + length (filter has_result (instructions_of func.blocks))
-  definition_count =
-      let both = length-append (map argument func.args) results in
-      let first = length-map func.args argument in
-      let second = length-map (filter has_result (instructions_of func.blocks)) outcome in
-      omega arith
-
   pub is_renaming : (called : Bool) → IsRenaming (renaming_of called func)
   is_renaming called = record {
     apart = λ one other below other_below same. numbers_apart test (definitions_of func) one other (sym (number_as one) ∙ (same ∙ number_as other));
@@ -75,7 +67,7 @@ module _ (func : Function) where
         let all = count_is test (definitions_of func) in
         let within = number_within test (definitions_of func) register (length (definitions_of func)) below in
         omega arith;
-    few_arguments = let all = definition_count in omega arith;
+    few_arguments = let all = definition_count func in omega arith;
     arguments = argument_keeps;
   }
 

@@ -24,7 +24,7 @@ use Rattle.object_meaning.specs.Lines.{retreats}
 use Rattle.base_forms.specs.Polls.{front_poll, placed, placed_block, placed_from, poll_call, polled}
 use Rattle.base_laws.specs.PollsPlaced.{EndsWithPoll}
 use Rattle.base_laws.specs.Statements.{PlacedCyclesPoll}
-use Rattle.base_laws.proofs.PlacedLaws.{block_placed}
+use Rattle.base_forms.proofs.PlacedLaws.{block_placed}
 
 -- ---- polls change no edge
 

@@ -30,7 +30,7 @@ use Rattle.ir_cfg.specs.TypedModules.{IsTypedFunction}
 use Rattle.object_meaning.specs.Calls.{function_in}
 use Rattle.base_forms.specs.Polls.{placed, poll_call}
 use Rattle.renaming_laws.specs.Renamed.{ArgumentsFit, CalleeTakes, Renaming, Takes}
-use Rattle.base_laws.proofs.PlacedLaws.{all_placed, definitions_placed}
+use Rattle.base_forms.proofs.PlacedLaws.{all_placed, definitions_placed}
 use Rattle.base_laws.proofs.NumberLaws.{renaming_of}
 use Rattle.base_laws.proofs.LineLaws.{IsReady}
 use Rattle.list_laws.proofs.Zips.{zip_lengths}

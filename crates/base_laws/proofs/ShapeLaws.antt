@@ -32,6 +32,7 @@ use Rattle.ir_ast.specs.Faults.GroupShape.{is_statepoint}
 use Rattle.ir_ast.specs.Faults.PhiEdges.{is_phi}
 use Rattle.ir_ast.specs.Faults.TypeClash.{FunctionIsTyped, IsCallOf, IsTyped, RuleOf}
 use Rattle.ir_ast.specs.Faults.Reserved.{IsSource}
+use Rattle.ir_ast.proofs.OpLaws.{plain_member}
 use Rattle.ir_cfg.specs.Graphs.{graph_of}
 use Rattle.ir_cfg.proofs.KeepsCounts.{count_none, count_some}
 use Rattle.ir_cfg.proofs.KeepsEntry.{entry_alone}
@@ -40,14 +41,13 @@ use Rattle.object_meaning.specs.Lines.{after_all}
 use Rattle.ir_cfg.specs.SourceModules.{IsSourceModule}
 use Rattle.ir_cfg.specs.TypedModules.{IsTypedFunction}
 use Rattle.object_meaning.specs.Calls.{function_in}
-use Rattle.object_meaning.specs.Frames.{is_member}
 use Rattle.base_forms.specs.Polls.{placed, placed_block, placed_from, poll_call}
 use Rattle.base_forms.specs.DerivedMarks.{derived_marks}
 use Rattle.base_forms.specs.Inserted.{renumbered}
 use Rattle.base_forms.specs.Based.{based, based_blocks, based_insts, based_module, lines_for}
 use Rattle.base_laws.specs.BeforeLiveness.{CallsInShape, IsBeforeLiveness, IsPlainLine, PassesArguments, PhisStandFirst, arguments_of}
 use Rattle.base_laws.specs.Statements.{BasedIsInShape}
-use Rattle.base_laws.proofs.PlacedLaws.{all_placed}
+use Rattle.base_forms.proofs.PlacedLaws.{all_placed}
 use Rattle.base_laws.proofs.PollLaws.{graph_placed}
 use Rattle.base_laws.proofs.FormLaws.{all_based_blocks, each_line, edges_based, ends_based, ends_placed, lead_based, lead_first, lead_of_none, lead_polled, phi_splits, phis_lead, quiet_polled}
 use Rattle.base_laws.proofs.MeaningLaws.{found_now}
@@ -100,11 +100,6 @@ module _ (content : ModuleContent) where
 plain_statepoint : (op : Op) → is_rewritten op ≡ false → is_statepoint op ≡ false
 plain_statepoint (ops.Statepoint id callee types) plain = absurd cc
 plain_statepoint op plain = refl
-
-plain_member : (op : Op) → is_rewritten op ≡ false → is_member op ≡ false
-plain_member ops.GcResult plain = absurd cc
-plain_member ops.GcRelocate plain = absurd cc
-plain_member op plain = refl
 
 ends_unnamed : (inst : Instruction) → IsLine inst → (op : Op) → inst.op ≡ op → is_terminator op ≡ true → inst.result ≡ None
 ends_unnamed inst line ops.Br is ends = is_none inst.result (subst (λ (op : Op). LineOf op inst) is line).result

@@ -2,9 +2,9 @@
 use Rattle.std.proofs.Common.{◌≡◌, ℕ, zero, suc, Bool, true, false, ◌||◌, ◌&&◌, if◌then◌else◌, List, [], ◌∷◌, ◌++◌, length, map, refl, sym, ap, subst, ◌∙◌, append-nil, inl, inr}
 use Rattle.std.specs.Prelude.{Some, slice_get, slice_index_or, filter}
 use Rattle.std.specs.List.{All, AllZip, filter_map, list_any}
+use Rattle.std.proofs.lemmas.List.Elements.{All-head, All-tail}
 use Rattle.list_laws.proofs.Places.{get_filled, get_map}
 use Rattle.renaming_laws.proofs.StepLaws.{merge_is}
-use Rattle.renaming_laws.proofs.ListLaws.{all_first, all_rest}
 use Rattle.ir_ast.specs.declared.funcs.Arg.{Arg}
 use Rattle.ir_ast.specs.declared.types.Ty.{Ty}
 use Rattle.ir_ast.specs.declared.types.Ty.TheVariants as types
@@ -21,8 +21,8 @@ use Rattle.ir_ast.specs.Values.{Definition, Gives, argument, definition_type, de
 use Rattle.ir_ast.specs.Derived.{is_merge, is_step}
 use Rattle.ir_ast.specs.Faults.TypeClash.{Fits, asked}
 use Rattle.base_forms.specs.DerivedMarks.{derived_marks, derives, has_mark, marks_after, uses_marked}
-use Rattle.base_laws.proofs.PlacedLaws.{has_result}
 use Rattle.ir_ast.proofs.OpLaws.{pointer_is}
+use Rattle.object_meaning.proofs.GivenLaws.{has_result}
 
 -- what is asked of an instruction here: its form, and that its operands have their types
 pub record IsTypedLine (func : Function) (inst : Instruction) : Type 0 where
@@ -42,12 +42,12 @@ given_in : (P : Instruction → Type 0) (insts : List Instruction) (place : ℕ)
     → All P insts → P inst
 given_in P [] place inst is all = absurd cc
 given_in P (first ∷ insts) place inst is all =
-    by (has_result first) place is (λ k found. given_in P insts k inst found (all_rest P first insts all))
+    by (has_result first) place is (λ k found. given_in P insts k inst found (All-tail P first insts all))
   where
     by : (b : Bool) (place : ℕ) → slice_get (map outcome (if b then first ∷ filter has_result insts else filter has_result insts)) place ≡ Some (outcome inst)
         → ((k : ℕ) → slice_get (map outcome (filter has_result insts)) k ≡ Some (outcome inst) → P inst) → P inst
     by false place is further = further place is
-    by true zero is further = let same : first ≡ inst = cc in subst P same (all_first P first insts all)
+    by true zero is further = let same : first ≡ inst = cc in subst P same (All-head P first insts all)
     by true (suc place) is further = further place is
 
 past_arguments : (args : List Arg) (rest : List Definition) (value : ℕ) (inst : Instruction) → slice_get (map argument args ++ rest) value ≡ Some (outcome inst)

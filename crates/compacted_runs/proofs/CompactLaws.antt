@@ -17,9 +17,10 @@ use Rattle.moving_heap.specs.Places.{new_stand, verdict}
 use Rattle.moving_heap.specs.Settled.{AreSettled}
 use Rattle.object_meaning.specs.SourceRuns.{SourceGives, source_setting}
 use Rattle.object_meaning.specs.Traces.{Event}
+use Rattle.object_meaning.specs.Outcomes.{sizes_in}
 use Rattle.machine_meaning.specs.EventPlaces.{MovePlan, Occasion, flip_of, made_at, makes, polls, stands_at_event}
 use Rattle.made_objects.specs.declared.makes.Made.{Made}
-use Rattle.made_objects.specs.Makings.{counted_from, makings, makings_from, sizes_in, sizes_made}
+use Rattle.made_objects.specs.Makings.{counted_from, makings, makings_from, sizes_made}
 use Rattle.made_objects.specs.Packed.{IsFootprint, IsWhole}
 use Rattle.made_objects.proofs.MakingLaws.{counted_is, runs_make_their_objects}
 use Rattle.compact_plan.specs.Compacting.{compacted, stands_before}

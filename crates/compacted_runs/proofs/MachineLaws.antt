@@ -1,36 +1,24 @@
 -- The plan that compacts, on the machine.
-use Rattle.std.proofs.Common.{◌≡◌, ℕ, suc, List, [], ◌∷◌, length, map, Some, refl, sym, ap, subst, ◌∙◌, arith}
-use Rattle.std.specs.Prelude.{slice_get}
+use Rattle.std.proofs.Common.{◌≡◌, ℕ, List, [], refl, sym, ap, subst, ◌∙◌}
 use Rattle.std.proofs.Math.Path.{fun_ext}
 use Rattle.ir_ast.specs.Layouts.{ObjectLayout}
 use Rattle.ir_ast.specs.Modules.{ModuleContent}
-use Rattle.ir_ast.specs.Objects.{Object, footprint}
 use Rattle.move_plan.specs.Plans.{go}
-use Rattle.moving_heap.specs.declared.stands.Stand.{Stand}
 use Rattle.object_meaning.specs.SourceRuns.{SourceGives}
 use Rattle.object_meaning.specs.Traces.{Event}
+use Rattle.object_meaning.specs.Outcomes.{sizes_in}
 use Rattle.stackmap_write.specs.ModuleMaps.{map_of}
 use Rattle.moves_unseen.specs.Waits.{IsSound}
 use Rattle.rewritten_sound.specs.Definite.{rewritten_source}
 use Rattle.sp_rewrite.specs.Statements.{IsRewritten}
 use Rattle.sp_rewrite.proofs.RewrittenLaws.{rewriting_is_target, rewriting_is_verified, rewriting_keeps_meaning, source_is_rewritten}
 use Rattle.runs_unseen.proofs.SeenRuns.{keeps_way, seen_there}
-use Rattle.rewritten_runs.specs.PlacedRuns.{IsPlacedBy, events_of, sizes_in as sizes_stood}
+use Rattle.rewritten_runs.specs.PlacedRuns.{IsPlacedBy, events_of, stand_sizes}
 use Rattle.rewritten_runs.proofs.event_places.RunLaws.{places_are_by_events}
-use Rattle.made_objects.specs.Makings.{makings, sizes_in}
+use Rattle.rewritten_runs.proofs.shown_runs.SeenLaws.{same_sizes}
+use Rattle.made_objects.specs.Makings.{makings}
 use Rattle.compact_plan.proofs.LineLaws.{others_stay}
 use Rattle.compacted_runs.specs.Statements.{MachinesCompact, compacting}
-
--- objects that stand with their footprints
-stood_sizes : (layouts : List ObjectLayout) (objects : List Object) (stands : List Stand) → length stands ≡ length objects
-    → ((place : ℕ) (object : Object) (stand : Stand) → slice_get objects place ≡ Some object → slice_get stands place ≡ Some stand → stand.size ≡ footprint layouts object)
-    → map (λ (stand : Stand). stand.size) stands ≡ sizes_in layouts objects
-stood_sizes layouts [] [] count sizes = refl
-stood_sizes layouts [] (stand ∷ stands) count sizes = absurd (omega (arith, count))
-stood_sizes layouts (object ∷ objects) [] count sizes = absurd (omega (arith, count))
-stood_sizes layouts (object ∷ objects) (stand ∷ stands) count sizes =
-    ap (λ (size : ℕ). size ∷ map (λ (s : Stand). s.size) stands) (sizes 0 object stand refl refl)
-    ∙ ap (λ (rest : List ℕ). footprint layouts object ∷ rest) (stood_sizes layouts objects stands (omega (arith, count)) (λ place o s one two. sizes (suc place) o s one two))
 
 pub machines_compact : MachinesCompact
 machines_compact content source input plan bound event outcome gives =
@@ -47,8 +35,8 @@ machines_compact content source input plan bound event outcome gives =
     let run = seen_there after sound input now bound outcome target in
     let seen = run.1.1 in
     let placed = places_are_by_events after (map_of after) input now bound run.0 run.1.0 (keeps_way after sound input now bound run.0 run.1.0).1 in
-    let sizes : sizes_stood run.0 ≡ sizes_in content.layouts outcome.objects =
-    stood_sizes after.layouts outcome.objects (run.0).heap.stands seen.objects.stands_count seen.objects.sizes
+    let sizes : stand_sizes run.0 ≡ sizes_in content.layouts outcome.objects =
+    same_sizes after.layouts outcome.objects (run.0).heap.stands seen.objects.stands_count seen.objects.sizes
     ∙ ap (λ (layouts : List ObjectLayout). sizes_in layouts outcome.objects) drops.layouts in
     record {
       after = after;

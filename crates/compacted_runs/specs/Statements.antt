@@ -5,10 +5,10 @@ use Rattle.ir_cfg.specs.SourceModules.{IsSourceModule}
 use Rattle.move_plan.specs.declared.plan_lines.PlanLine.{PlanLine}
 use Rattle.move_plan.specs.Plans.{IsPlan, go}
 use Rattle.moving_heap.specs.declared.stands.Stand.{Stand}
-use Rattle.object_meaning.specs.Outcomes.{Outcome}
+use Rattle.object_meaning.specs.Outcomes.{Outcome, sizes_in}
 use Rattle.object_meaning.specs.SourceRuns.{SourceGives}
 use Rattle.object_meaning.specs.Traces.{Event}
-use Rattle.made_objects.specs.Makings.{makings, sizes_in, sizes_made}
+use Rattle.made_objects.specs.Makings.{makings, sizes_made}
 use Rattle.compact_plan.specs.Compacting.{compacted, stands_before}
 use Rattle.compact_plan.specs.Packed.{laid, packing_verdict}
 use Rattle.compact_plan.specs.Promises.{IsEvent}

@@ -25,13 +25,14 @@ use Rattle.object_meaning.specs.Computing.{computed, value_of_line}
 use Rattle.object_meaning.specs.Jumps.{incoming, phi_count, phi_write}
 use Rattle.object_meaning.specs.Lines.{Line}
 use Rattle.object_meaning.specs.Registers.{is_set, nothing, operand, put, value}
+use Rattle.object_meaning.proofs.RegisterLaws.{puts_length}
 use Rattle.base_definite.specs.Comings.{Comes, over_edge}
 use Rattle.base_definite.proofs.base_paths.GivesLaws.{defines_gives}
 use Rattle.base_definite.proofs.base_paths.UndefinedLaws.{Undefined, first_time}
+use Rattle.base_definite.proofs.LinePlaces.{line_from, writes_own, line_forth}
 use Rattle.known_values.specs.Meanings.{AllHold, Holds, IsGiven, Meaning, ReadSame, at_edge, by_line as on_line, by_phi, register}
 use Rattle.known_values.specs.Onward.{computes}
-use Rattle.known_values.proofs.PlaceLaws.{defined_high, line_at_place, line_from, own_written, writes_own}
-use Rattle.known_values.proofs.WriteLaws.{puts_length}
+use Rattle.known_values.proofs.PlaceLaws.{defined_high, own_written}
 use Rattle.known_values.specs.Texts.{UsesAreDefined}
 use Rattle.folded_forms.specs.Folded.{Table, stands_for, stays}
 use Rattle.folded_forms.specs.Foldings.{Folds, IsFolding, by_choice, by_entries, by_operator}
@@ -180,7 +181,7 @@ module _ (layouts : List ObjectLayout) (func : Function) (table : Table) (foldin
             ]
 
         line : (line : Line) × (slice_get (lines_at func block) place ≡ Some line) × (line.inst ≡ inst)
-        line = line_at_place func block place inst defines.stands
+        line = line_forth func block place inst defines.stands
 
         written : (line.0).to ≡ Some own
         written = (own_written func block place line.0 (line_from func block place line.0 line.1) own defines).0

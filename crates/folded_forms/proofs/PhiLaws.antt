@@ -1,6 +1,6 @@
 -- In a source module's functions, with their polls and without, phis stand at the front of blocks other than the entry, and have an
 -- entry for each edge; and a table of a function is one of it with its polls.
-use Rattle.std.proofs.Common.{◌≡◌, ◌==◌, ℕ, zero, suc, ◌+◌, ◌<◌, ◌≤◌, Bool, true, false, cond, not, if◌then◌else◌, List, [], ◌∷◌, length, map, take, drop, refl, sym, ap, subst, ◌∙◌, inl, inr, arith}
+use Rattle.std.proofs.Common.{◌≡◌, ◌==◌, ℕ, zero, suc, ◌+◌, ◌<◌, ◌≤◌, Bool, true, false, cond, not, List, [], ◌∷◌, length, map, take, drop, refl, sym, ap, subst, ◌∙◌, inl, inr, arith}
 use Rattle.std.specs.Prelude.{Option, Some, None, slice_get, slice_index}
 use Rattle.std.specs.List.{position, position_or_len, prefix_len}
 use Rattle.std.specs.Option.{option_map, option_map_or}
@@ -39,11 +39,12 @@ use Rattle.ir_cfg.proofs.KeepsPaths.{succs_at}
 use Rattle.ir_cfg.proofs.PathLemmas.{edge_within}
 use Rattle.object_meaning.specs.BlockLines.{lines_at}
 use Rattle.object_meaning.specs.Jumps.{phi_count}
-use Rattle.object_meaning.specs.Lines.{following, registers_of}
+use Rattle.object_meaning.specs.Lines.{registers_of}
 use Rattle.object_meaning.specs.TargetRuns.{plain_lines}
+use Rattle.object_meaning.proofs.LineLaws.{phi_count_is}
 use Rattle.base_forms.specs.Polls.{placed, placed_block}
 use Rattle.base_laws.proofs.FormLaws.{lead_first, lead_polled, phi_splits}
-use Rattle.base_laws.proofs.PlacedLaws.{block_placed, definitions_placed}
+use Rattle.base_forms.proofs.PlacedLaws.{block_placed, definitions_placed}
 use Rattle.base_laws.proofs.PollLaws.{graph_placed}
 use Rattle.base_definite.proofs.PolledLaws.{source_line}
 use Rattle.folded_forms.specs.Folded.{Table, stands_for}
@@ -70,10 +71,6 @@ folding_placed func table folding = record {
   derived = λ value to stands derived.
       derived_as func (placed func) (sym (definitions_placed func)) value (folding.derived value to stands (derived_as (placed func) func (definitions_placed func) to derived));
 }
-
-phi_count_is : (next : ℕ) (insts : List Instruction) → phi_count (plain_lines next insts) ≡ phis_of insts
-phi_count_is next [] = refl
-phi_count_is next (inst ∷ insts) = ap (λ n. if is_phi inst.op then 1 + n else 0) (phi_count_is (following next inst) insts)
 
 -- the first place that passes is no later than one that does
 first_passing : {A : Type 0} (test : A → Bool) (xs : List A) (place : ℕ) (x : A) → slice_get xs place ≡ Some x → test x ≡ true → position_or_len test xs ≤ place

@@ -3,7 +3,7 @@ use Rattle.std.proofs.Common.{◌≡◌, ℕ, zero, suc, ◌+◌, ◌<◌, Bool,
 use Rattle.std.specs.Prelude.{nat_le, Option, Some, None, is_some, slice_get, slice_index, slice_index_or}
 use Rattle.std.specs.List.{All, list_all, list_any}
 use Rattle.std.specs.Option.{option_map, IfSome}
-use Rattle.std.proofs.lemmas.List.Elements.{All-cons, All-nil}
+use Rattle.std.proofs.lemmas.List.Elements.{All-cons, All-nil, All-head, All-tail}
 use Rattle.ir_ast.specs.declared.types.Ty.{Ty}
 use Rattle.ir_ast.specs.declared.ops.Op.{Op}
 use Rattle.ir_ast.specs.declared.ops.Op.TheVariants as ops
@@ -16,11 +16,11 @@ use Rattle.ir_ast.specs.Lines.{is_rewritten}
 use Rattle.ir_ast.specs.Operands.{operands_of}
 use Rattle.ir_ast.specs.Ops.{is_member, is_phi, is_terminator}
 use Rattle.ir_ast.specs.Values.{definitions_of}
+use Rattle.ir_ast.proofs.OpLaws.{plain_member}
 use Rattle.object_meaning.specs.Lines.{Line, after_all, first_registers, following, lines_from, numbered, poll, retreats}
 use Rattle.base_laws.proofs.FormLaws.{lead_of_none, phis_lead}
 use Rattle.known_values.specs.Onward.{computes}
 use Rattle.renaming_laws.specs.Renamed.{ArgumentsFit, Renaming}
-use Rattle.renaming_laws.proofs.ListLaws.{all_first, all_rest}
 use Rattle.folded_forms.specs.Folded.{Table, folded_insts, folded_line, folded_operand, stays}
 use Rattle.trimmed_laws.specs.Trims.{HasNumber, IsNumbered, IsStaying, LiteralsStay, MayGo, Trim, computing, now_operand, starts, taken_before, trimmed_line}
 use Rattle.trimmed_laws.specs.Trimmed.{Trimmed, goes as line_goes, no_lines, stays as line_stays}
@@ -54,11 +54,6 @@ pub no_groups : (found : Option Function) (table : Table) (stands : Operand → 
 no_groups (Some func) table stands regroups = cc
 no_groups None table stands regroups = cc
 
-no_member : (op : Op) → is_rewritten op ≡ false → is_member op ≡ false
-no_member ops.GcResult plain = absurd cc
-no_member ops.GcRelocate plain = absurd cc
-no_member op plain = refl
-
 -- what may go is no terminator
 goes_on_when_gone : {layouts : List ObjectLayout} {stands : Operand → Operand} {inst : Instruction} → MayGo layouts stands inst → is_terminator inst.op ≡ false
 goes_on_when_gone {inst = inst} (taken_before taken) = by inst.op taken
@@ -81,7 +76,7 @@ goes_on_when_gone {inst = inst} (computing kind safe) = by inst.op kind
 map_same : {A B : Type 0} (f g : A → B) (xs : List A) → All (λ x. f x ≡ g x) xs → map f xs ≡ map g xs
 map_same f g [] same = refl
 map_same f g (x ∷ xs) same =
-    ap (λ y. y ∷ map f xs) (all_first (λ z. f z ≡ g z) x xs same) ∙ ap (λ ys. g x ∷ ys) (map_same f g xs (all_rest (λ z. f z ≡ g z) x xs same))
+    ap (λ y. y ∷ map f xs) (All-head (λ z. f z ≡ g z) x xs same) ∙ ap (λ ys. g x ∷ ys) (map_same f g xs (All-tail (λ z. f z ≡ g z) x xs same))
 
 all_weaker : {A : Type 0} (P Q : A → Type 0) (xs : List A) → ((x : A) → P x → Q x) → All P xs → All Q xs
 all_weaker P Q xs weaker all = λ k x below. weaker (slice_index_or xs k x) (all k x below)
@@ -156,10 +151,10 @@ module _ (layouts : List ObjectLayout) (calls : ℕ → Renaming) (func : Functi
       → (start : ℕ) → starts test (lines_from block start (folded_insts table next insts)) ≡ false
   none_starts test poll_not block next [] none start = refl
   none_starts test poll_not block next (inst ∷ insts) none start =
-      by (is_some inst.result && not (stays table next)) (none_starts test poll_not block (following next inst) insts (all_rest (λ (i : Instruction). test i.op ≡ false) inst insts none))
+      by (is_some inst.result && not (stays table next)) (none_starts test poll_not block (following next inst) insts (All-tail (λ (i : Instruction). test i.op ≡ false) inst insts none))
     where
       here : test inst.op ≡ false
-      here = all_first (λ (i : Instruction). test i.op ≡ false) inst insts none
+      here = All-head (λ (i : Instruction). test i.op ≡ false) inst insts none
 
       at_line : (retreating : Bool) (more : List Line)
           → starts test ((if retreating then poll ∷ [] else []) ++ numbered start (folded_line table inst) ∷ more) ≡ false
@@ -174,7 +169,7 @@ module _ (layouts : List ObjectLayout) (calls : ℕ → Renaming) (func : Functi
   all_plain : (next : ℕ) (insts : List Instruction) → AllCut next insts → All (λ (inst : Instruction). is_member inst.op ≡ false) insts
   all_plain next [] all = All-nil (λ (inst : Instruction). is_member inst.op ≡ false)
   all_plain next (inst ∷ insts) all =
-      All-cons (λ (each : Instruction). is_member each.op ≡ false) inst insts (no_member inst.op (all.0).plain) (all_plain (following next inst) insts all.1)
+      All-cons (λ (each : Instruction). is_member each.op ≡ false) inst insts (plain_member inst.op (all.0).plain) (all_plain (following next inst) insts all.1)
 
   none_phis : (insts : List Instruction) → list_all (λ (each : Instruction). not (is_phi each.op)) insts ≡ true → All (λ (inst : Instruction). is_phi inst.op ≡ false) insts
   none_phis [] none = All-nil (λ (inst : Instruction). is_phi inst.op ≡ false)

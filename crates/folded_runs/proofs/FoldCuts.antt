@@ -35,7 +35,8 @@ use Rattle.ir_cfg.specs.SourceModules.{IsSourceModule}
 use Rattle.ir_cfg.specs.TypedModules.{IsTypedFunction}
 use Rattle.object_meaning.specs.Calls.{function_in}
 use Rattle.object_meaning.specs.Lines.{following}
-use Rattle.base_definite.proofs.base_paths.GivesLaws.{gives_at, has_result}
+use Rattle.object_meaning.proofs.GivenLaws.{has_result}
+use Rattle.base_definite.proofs.base_paths.GivesLaws.{gives_at}
 use Rattle.renaming_laws.specs.Renamed.{ArgumentsFit, CalleeTakes, Renaming, Takes, renamed}
 use Rattle.folded_forms.specs.Folded.{Table, folded_operand, numbered, stands_for, stays}
 use Rattle.trimmed_laws.specs.Trims.{FunctionStays, IsNumbered, LiteralsStay, MayGo, Trim, calls_of, now_operand}

@@ -22,12 +22,12 @@ use Rattle.object_meaning.specs.Registers.{operand, value}
 use Rattle.object_meaning.specs.States.{Frame, Setting}
 use Rattle.base_definite.proofs.base_paths.GivesLaws.{defines_gives, stands_one}
 use Rattle.base_definite.proofs.base_paths.UndefinedLaws.{behind_line}
+use Rattle.base_definite.proofs.LinePlaces.{LineFrom, line_from}
 use Rattle.known_values.specs.Meanings.{AllHold, Meaning}
 use Rattle.known_values.specs.Onward.{LeadsTo, computes}
 use Rattle.known_values.specs.Statements.{Knows}
 use Rattle.known_values.specs.Texts.{RunsText, UsesAreDefined}
 use Rattle.known_values.proofs.OnwardLaws.{leading_ends, leads_over}
-use Rattle.known_values.proofs.PlaceLaws.{LineFrom, line_from}
 use Rattle.folded_forms.specs.Folded.{Table, stands_for}
 use Rattle.folded_forms.specs.Foldings.{Folds, IsFolding, by_choice, by_entries, by_operator}
 use Rattle.folded_forms.specs.Known.{EntryFrom, PhisMeetEdges, meanings_of}

@@ -24,9 +24,8 @@ use Rattle.object_meaning.specs.SourceRuns.{source_setting}
 use Rattle.object_meaning.specs.States.{State}
 use Rattle.object_meaning.specs.Texts.{function_name}
 use Rattle.object_meaning.proofs.LineLaws.{last_register}
-use Rattle.base_laws.proofs.BlockLaws.{after_is}
+use Rattle.object_meaning.proofs.GivenLaws.{after_is, definition_count}
 use Rattle.base_laws.proofs.FormLaws.{phi_splits}
-use Rattle.base_laws.proofs.NumberLaws.{definition_count}
 use Rattle.folded_forms.specs.Folded.{Table, folded, folded_blocks, folded_insts, stays}
 use Rattle.trimmed_laws.specs.Trims.{IsTrim, Trim}
 use Rattle.trimmed_laws.specs.Trimmed.{FrameReads, IsTrimmed, Trimmed, no_lines, stays as line_stays}

@@ -3,13 +3,12 @@ use Rattle.std.proofs.Common.{◌≡◌, ℕ, suc, ◌+◌, ◌-◌, ◌<◌, Bo
 use Rattle.std.specs.Prelude.{Some, filter, is_some, slice_get}
 use Rattle.std.specs.List.{Contains, filter_map, range_with_len}
 use Rattle.std.proofs.lemmas.Bool.{cases_lt}
-use Rattle.std.proofs.lemmas.List.{length-map, take-map}
+use Rattle.std.proofs.lemmas.List.{length-map}
 use Rattle.std.proofs.lemmas.List.FromFn.{length-range_with_len}
-use Rattle.std.proofs.lemmas.Option.{none-some, same_Some, slice_get_within}
+use Rattle.std.proofs.lemmas.Option.{same_Some, slice_get_within}
 use Rattle.list_laws.proofs.Contents.{all_at, all_from_at, contains_get}
-use Rattle.list_laws.proofs.Places.{filter_map_back, filter_map_forth, get_front, map_back, take_back}
+use Rattle.list_laws.proofs.Places.{filter_map_back, filter_map_forth, get_front, map_back}
 use Rattle.ir_ast.specs.declared.types.Ty.{Ty}
-use Rattle.ir_ast.specs.declared.ops.Op.{Op}
 use Rattle.ir_ast.specs.declared.ops.Op.TheVariants as ops
 use Rattle.ir_ast.specs.declared.ops.Operand.{Operand}
 use Rattle.ir_ast.specs.Derived.{Derived, by_merge, by_step, is_merge, is_step}
@@ -19,9 +18,11 @@ use Rattle.ir_ast.specs.Operands.{named, operands_of, value_in, values_used}
 use Rattle.ir_ast.specs.Values.{Definition, Gives, argument, definitions_of, outcome}
 use Rattle.ir_ast.specs.Faults.DerivedEscapes.{DerivedStay, KeepsDerived, leaving, values_leaving}
 use Rattle.ir_ast.specs.Faults.GroupShape.{number_at}
+use Rattle.ir_ast.proofs.OpLaws.{leaving_map}
 use Rattle.graph_search.specs.Paths.{Marked}
 use Rattle.ir_cfg.specs.Unreached.{kept_of}
 use Rattle.ir_cfg.proofs.KeepsPlaces.{kept_back, marks_before}
+use Rattle.ir_cfg.proofs.UsedLaws.{leaving_at}
 use Rattle.folded_forms.specs.Folded.{Table, folded, folded_line, folded_operand, stays}
 use Rattle.base_definite.proofs.base_relations.GroupLaws.{given_at}
 use Rattle.folded_forms.proofs.TableLaws.{same_number}
@@ -53,18 +54,6 @@ counted_same table one other stay stay_other same = elim (cases_lt one other) [
 ]
 
 -- ---- what is stored, passed or returned
-
-leaving_map : (f : Operand → Operand) (op : Op) (all : List Operand) → leaving op (map f all) ≡ map f (leaving op all)
-leaving_map f ops.Store all = take-map f 1 all
-leaving_map f (ops.Call callee types) all = refl
-leaving_map f ops.Ret all = refl
-leaving_map f op all = refl
-
-leaving_at : (op : Op) (all : List Operand) (place : ℕ) (one : Operand) → slice_get (leaving op all) place ≡ Some one → slice_get all place ≡ Some one
-leaving_at ops.Store all place one at = (take_back 1 all place one at).1
-leaving_at (ops.Call callee types) all place one at = at
-leaving_at ops.Ret all place one at = at
-leaving_at op all place one at = absurd (none-some one at)
 
 value_leaves : (leaves : List Operand) (place : ℕ) (one : Operand) (own : ℕ) → slice_get leaves place ≡ Some one → one ≡ named own → (k : ℕ) × (slice_get (filter_map value_in leaves) k ≡ Some own)
 value_leaves leaves place one own at names = filter_map_forth value_in leaves place one own at (ap value_in names)

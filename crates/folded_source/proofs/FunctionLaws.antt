@@ -34,6 +34,7 @@ use Rattle.ir_cfg.specs.Limits.{IsName}
 use Rattle.ir_cfg.specs.TypedModules.{IsTypedFunction}
 use Rattle.ir_cfg.proofs.KeepsForms.{all_flat, flat_all}
 use Rattle.ir_cfg.proofs.KeepsPlaces.{kept_all, kept_distinct}
+use Rattle.ir_cfg.proofs.UsedLaws.{values_known}
 use Rattle.folded_forms.specs.Folded.{Table, folded, folded_line, folded_operand}
 use Rattle.folded_source.proofs.DerivedLaws.{derived_stay}
 use Rattle.folded_source.proofs.FormLaws.{Carries, line_under, typed_under}
@@ -41,7 +42,7 @@ use Rattle.folded_source.proofs.LineLaws.{folded_fewer, folded_text, line_stays}
 use Rattle.folded_source.proofs.PhiLaws.{blocks_end, phis_folded}
 use Rattle.folded_source.proofs.PlaceLaws.{block_back, blocks_long, lines_folded}
 use Rattle.folded_source.proofs.Settled.{IsSettled}
-use Rattle.folded_source.proofs.TypeLaws.{carried, functions_there, values_known, widths_there}
+use Rattle.folded_source.proofs.TypeLaws.{carried, functions_there, widths_there}
 use Rattle.folded_source.proofs.UseLaws.{uses_folded}
 use Rattle.folded_source.proofs.ValueLaws.{new_names, value_marks}
 

@@ -5,11 +5,9 @@ use Rattle.std.specs.List.{All, AllZip, flat_map}
 use Rattle.std.specs.Option.{IsSomeAnd, MatchOption}
 use Rattle.std.proofs.lemmas.List.{length-append}
 use Rattle.std.proofs.lemmas.List.Elements.{length_all_zip}
-use Rattle.std.proofs.lemmas.Option.{slice_get-map}
 use Rattle.std.proofs.lemmas.Slice.Zip.{AllZip-right}
 use Rattle.list_laws.proofs.Contents.{all_at, all_back, all_from_at, all_front}
-use Rattle.ir_ast.specs.declared.ops.Callee.{Callee}
-use Rattle.ir_ast.specs.declared.ops.Callee.TheVariants.{Fun}
+use Rattle.list_laws.proofs.Zips.{zip_map}
 use Rattle.ir_ast.specs.declared.types.Ty.TheVariants.{Int}
 use Rattle.ir_ast.specs.Blocks.{BasicBlock}
 use Rattle.ir_ast.specs.Funcs.{Function, instructions_of}
@@ -18,7 +16,7 @@ use Rattle.ir_ast.specs.Layouts.{ObjectLayout}
 use Rattle.ir_ast.specs.Lines.{IsLine}
 use Rattle.ir_ast.specs.Lists.{Distinct}
 use Rattle.ir_ast.specs.Modules.{ModuleContent}
-use Rattle.ir_ast.specs.Scope.{Signature, called_in, scope_of, signature_of}
+use Rattle.ir_ast.specs.Scope.{scope_of, signature_of}
 use Rattle.ir_ast.specs.Values.{definition_name, definitions_of}
 use Rattle.ir_ast.specs.Faultless.{FunctionHasNoFault, HasNoFault}
 use Rattle.ir_ast.specs.Faults.NoMain.{HasMain}
@@ -29,6 +27,7 @@ use Rattle.ir_cfg.specs.DefiniteUses.{UsesAreDefinite}
 use Rattle.ir_cfg.specs.Limits.{IsName, IsWithinLimits}
 use Rattle.ir_cfg.specs.SourceModules.{IsSourceModule}
 use Rattle.ir_cfg.specs.TypedModules.{IsTypedFunction}
+use Rattle.ir_cfg.proofs.KeepsSource.{same_called}
 use Rattle.folded_forms.specs.Folded.{Table, folded, folded_blocks}
 use Rattle.folded_forms.specs.Simplified.{SameBlock, SameFunction}
 use Rattle.folded_source.specs.Statements.{IsUnder, ModuleIsUnder, StaysSource}
@@ -36,19 +35,6 @@ use Rattle.folded_source.proofs.FunctionLaws.{IsOfSource, SeesSame, few_lines, f
 use Rattle.folded_source.proofs.PlaceLaws.{targets_same}
 use Rattle.folded_source.proofs.Settled.{IsSettled}
 use Rattle.object_meaning.specs.Lines.{after_all}
-
--- ---- two lists, element by element
-
-zip_map : {A C : Type 0} (R : A → A → Type 0) (f : A → C) → ((x y : A) → R x y → f y ≡ f x) → (xs ys : List A) → AllZip R xs ys → map f ys ≡ map f xs
-zip_map R f same [] [] zip = refl
-zip_map R f same [] (y ∷ ys) zip = absurd zip
-zip_map R f same (x ∷ xs) [] zip = absurd zip
-zip_map {A} {C} R f same (x ∷ xs) (y ∷ ys) zip = ap (λ (c : C). c ∷ map f ys) (same x y zip.0) ∙ ap (λ (cs : List C). f x ∷ cs) (zip_map R f same xs ys zip.1)
-
-same_called : (funcs after : List Function) (callee : Callee) → map signature_of after ≡ map signature_of funcs → called_in after callee ≡ called_in funcs callee
-same_called funcs after (Fun func) same =
-    sym (slice_get-map signature_of after func.0) ∙ (ap (λ (ss : List Signature). slice_get ss func.0) same ∙ slice_get-map signature_of funcs func.0)
-same_called funcs after callee same = refl
 
 -- ---- the same blocks
 

@@ -25,7 +25,7 @@ use Rattle.ir_cfg.specs.Graphs.{graph_of}
 use Rattle.ir_cfg.proofs.KeepsPlaces.{kept_back, kept_get, marks_before}
 use Rattle.object_meaning.specs.Lines.{after_all, following}
 use Rattle.object_meaning.proofs.LineLaws.{after_append}
-use Rattle.base_laws.proofs.BlockLaws.{after_is}
+use Rattle.object_meaning.proofs.GivenLaws.{after_is}
 use Rattle.base_definite.proofs.CutLaws.{number_cut}
 use Rattle.folded_forms.specs.Folded.{Table, folded, folded_blocks, folded_insts, folded_line, stays}
 use Rattle.folded_source.proofs.LineLaws.{before_append, folded_all, folded_kept, folded_length, folded_text, line_marks, line_stays, mark_at, marks_append, marks_whole}

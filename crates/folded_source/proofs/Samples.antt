@@ -5,7 +5,7 @@ use Rattle.std.specs.Prelude.{Some, None, is_some, slice_get}
 use Rattle.std.specs.List.{All, Contains}
 use Rattle.std.proofs.lemmas.Bool.{false≢true}
 use Rattle.std.proofs.lemmas.List.Elements.{All-cons, All-nil}
-use Rattle.list_laws.proofs.Contents.{all_at, all_one, contains_cons, contains_middle, contains_none, contains_one, get_contained}
+use Rattle.list_laws.proofs.Contents.{all_at, all_one, contains_middle, contains_none, contains_one, get_contained}
 use Rattle.sp_ids.specs.declared.ids.BlockId.{BlockId}
 use Rattle.ir_ast.specs.declared.types.Ty.{Ty}
 use Rattle.ir_ast.specs.declared.types.Ty.TheVariants.{Int}
@@ -42,6 +42,8 @@ use Rattle.ir_cfg.specs.Graphs.{graph_of}
 use Rattle.ir_cfg.specs.Limits.{IsName}
 use Rattle.ir_cfg.specs.SourceModules.{IsSourceModule}
 use Rattle.ir_cfg.specs.TypedModules.{IsTypedFunction}
+use Rattle.ir_cfg.proofs.UsedLaws.{values_known}
+use Rattle.ir_cfg.proofs.NameLaws.{absent, all_distinct, differ, distinct_nil, free_main, names_distinct, not_inserted}
 use Rattle.definite_assign.proofs.PathLemmas.{path_ends}
 use Rattle.folded_forms.specs.Folded.{Table, folded, stands_for, stays}
 use Rattle.folded_forms.specs.Foldings.{Folds, IsFolding, IsThinning, by_operator}
@@ -49,7 +51,6 @@ use Rattle.folded_forms.specs.Pure.{is_pure}
 use Rattle.folded_source.specs.Statements.{StaysSource}
 use Rattle.folded_source.specs.Steps.{IsLeft, Steps, by_literals, by_substitute, replaced, unchanged}
 use Rattle.folded_source.proofs.SettleLaws.{folded_stays_source}
-use Rattle.folded_source.proofs.TypeLaws.{values_known}
 
 abbrev value : ℕ → Operand
 value number = operands.Value (record { 0 = number })
@@ -207,52 +208,6 @@ each_line P holds = each_of P (holds sum sum_well) (holds product product_well) 
 each_definition : (P : Definition → Type 0) → P (outcome sum) → P (outcome product) → All P (definitions_of before)
 each_definition P a b = All-cons P (outcome sum) (outcome product ∷ []) a (All-cons P (outcome product) [] b (All-nil P))
 
--- ---- names
-
-one_apart : {A : Type 0} (a : A) → Distinct (a ∷ [])
-one_apart a zero zero less below same = omega (arith, less)
-one_apart a zero (suc k) less below same = let fact : suc k < 1 = below in omega (arith, fact)
-one_apart a (suc j) k less below same = let fact : k < 1 = below in omega (arith, less, fact)
-
-none_apart : {A : Type 0} → Distinct {A = A} []
-none_apart j k less below same = let fact : k < 0 = below in omega (arith, fact)
-
-abbrev first_of : List ℕ → ℕ
-first_of [] = 0
-first_of (x ∷ xs) = x
-
-a_not_b : codes "a" ≡ codes "b" → ⊥
-a_not_b is = let heads : 97 ≡ 98 = ap first_of is in omega (arith, heads)
-
-two_apart : Distinct (codes "a" ∷ codes "b" ∷ [])
-two_apart zero zero less below same = omega (arith, less)
-two_apart zero (suc zero) less below same = a_not_b (let whole : Some (codes "a") ≡ Some (codes "b") = same in cc)
-two_apart zero (suc (suc k)) less below same = let fact : suc (suc k) < 2 = below in omega (arith, fact)
-two_apart (suc j) k less below same = let fact : k < 2 = below in omega (arith, less, fact)
-
-not_inserted : (name : List ℕ) (head : ℕ) → first_of name ≡ head → (head ≡ 115 → ⊥) → IsInsertedName name → ⊥
-not_inserted name head is other front = other (sym is ∙ ap first_of front.1)
-
-free_name : IsExternalName (codes "main") → ⊥
-free_name (inl among) = elim (contains_cons (codes "print_i64") (codes "main") (codes "read_i64" ∷ codes "task_start" ∷ codes "gc.safepoint_poll" ∷ codes "gc_check" ∷ codes "gc_same" ∷ []) among) [
-  | inl is ↦ (let heads : 112 ≡ 109 = ap first_of is in omega (arith, heads))
-  | inr among ↦ elim (contains_cons (codes "read_i64") (codes "main") (codes "task_start" ∷ codes "gc.safepoint_poll" ∷ codes "gc_check" ∷ codes "gc_same" ∷ []) among) [
-    | inl is ↦ (let heads : 114 ≡ 109 = ap first_of is in omega (arith, heads))
-    | inr among ↦ elim (contains_cons (codes "task_start") (codes "main") (codes "gc.safepoint_poll" ∷ codes "gc_check" ∷ codes "gc_same" ∷ []) among) [
-      | inl is ↦ (let heads : 116 ≡ 109 = ap first_of is in omega (arith, heads))
-      | inr among ↦ elim (contains_cons (codes "gc.safepoint_poll") (codes "main") (codes "gc_check" ∷ codes "gc_same" ∷ []) among) [
-        | inl is ↦ (let heads : 103 ≡ 109 = ap first_of is in omega (arith, heads))
-        | inr among ↦ elim (contains_cons (codes "gc_check") (codes "main") (codes "gc_same" ∷ []) among) [
-          | inl is ↦ (let heads : 103 ≡ 109 = ap first_of is in omega (arith, heads))
-          | inr among ↦ (let heads : 103 ≡ 109 = ap first_of (contains_one (codes "gc_same") (codes "main") among) in omega (arith, heads))
-        ]
-      ]
-    ]
-  ]
-]
-free_name (inr (inl front)) = let heads : 109 ≡ 103 = ap first_of front.1 in omega (arith, heads)
-free_name (inr (inr front)) = let heads : 109 ≡ 108 = ap first_of front.1 in omega (arith, heads)
-
 -- ---- no phi, and definite uses
 
 home : (number : ℕ) (found : BasicBlock) → slice_get before.blocks number ≡ Some found → (number ≡ 0) × (found ≡ entry)
@@ -315,8 +270,8 @@ no_fault = record {
   pointers = each_of (λ inst. orders_pointers inst.op inst.ty ≡ false) refl refl refl;
   form = (
     record {
-      values = each_definition (λ given. IsInsertedName (definition_name given) → ⊥) (not_inserted (codes "a") 97 refl (λ is. omega (arith, is))) (not_inserted (codes "b") 98 refl (λ is. omega (arith, is)));
-      labels = all_one (λ (b : BasicBlock). IsInsertedName b.name → ⊥) entry (not_inserted (codes "entry") 101 refl (λ is. omega (arith, is)));
+      values = each_definition (λ given. IsInsertedName (definition_name given) → ⊥) (not_inserted 97 [] (differ 97 115 refl)) (not_inserted 98 [] (differ 98 115 refl));
+      labels = all_one (λ (b : BasicBlock). IsInsertedName b.name → ⊥) entry (not_inserted 101 (codes "ntry") (differ 101 115 refl));
       lines = each_of (λ inst. is_rewritten inst.op ≡ false) refl refl refl;
     },
     each_of (KeepsDerived before) (All-nil (λ number. Derived before number → ⊥)) (All-nil (λ number. Derived before number → ⊥)) (all_one (λ number. Derived before number → ⊥) 1 (not_derived 1)),
@@ -339,15 +294,16 @@ typed_function = record {
 }
 
 worked_source : IsSourceModule (module_of before)
+unfolding all_distinct absent
 worked_source = record {
   typed = record {
     of_form = refl;
     no_fault = record {
       names = record {
-        layouts = none_apart;
-        functions = one_apart (codes "main");
-        labels = all_one (λ (func : Function). Distinct (map (λ (b : BasicBlock). b.name) func.blocks)) before (one_apart (codes "entry"));
-        values = all_one (λ (func : Function). Distinct (map definition_name (definitions_of func))) before two_apart;
+        layouts = distinct_nil;
+        functions = names_distinct (codes "main" ∷ []) refl;
+        labels = all_one (λ (func : Function). Distinct (map (λ (b : BasicBlock). b.name) func.blocks)) before (names_distinct (codes "entry" ∷ []) refl);
+        values = all_one (λ (func : Function). Distinct (map definition_name (definitions_of func))) before (names_distinct (codes "a" ∷ codes "b" ∷ []) refl);
       };
       typed = all_one (λ (func : Function). FunctionIsTyped (scope_of (module_of before) func) func) before (record {
         answer = refl;
@@ -357,7 +313,7 @@ worked_source = record {
       functions = all_one (FunctionHasNoFault (module_of before)) before no_fault;
       main = record { earlier = []; main = before; later = []; whole = refl; first = All-nil (λ (func : Function). func.name ≡ codes "main" → ⊥); name = refl; args = refl; answer = inr refl };
       fields = All-nil (λ (layout : ObjectLayout). 0 < length layout.fields);
-      free = all_one (λ (func : Function). IsExternalName func.name → ⊥) before free_name;
+      free = all_one (λ (func : Function). IsExternalName func.name → ⊥) before free_main;
     };
     functions = all_one (IsTypedFunction Source) before typed_function;
     layout_names = All-nil (λ (layout : ObjectLayout). IsName layout.name);

@@ -1,9 +1,8 @@
 -- Foldings and thinnings of a source module's functions are settled tables.
-use Rattle.std.proofs.Common.{◌≡◌, ℕ, suc, ◌≤◌, Bool, true, false, not, ◌&&◌, List, [], ◌∷◌, length, map, refl, sym, ap, subst, ◌∙◌, inl, inr, arith}
+use Rattle.std.proofs.Common.{◌≡◌, ℕ, suc, Bool, true, false, not, ◌&&◌, List, [], ◌∷◌, length, map, refl, sym, ap, subst, ◌∙◌, inl, inr}
 use Rattle.std.specs.Prelude.{Some, slice_get}
 use Rattle.std.specs.List.{AllZip, Contains}
 use Rattle.std.proofs.lemmas.Bool.{cases_Bool, cases_lt, false≢true}
-use Rattle.std.proofs.lemmas.Option.{slice_get_within}
 use Rattle.list_laws.proofs.Contents.{contains_get}
 use Rattle.list_laws.proofs.Places.{get_front}
 use Rattle.ir_ast.specs.declared.ops.Operand.{Operand}
@@ -19,6 +18,7 @@ use Rattle.ir_ast.specs.Faults.GroupShape.{number_at}
 use Rattle.ir_ast.specs.Faults.TypeClash.{Fits}
 use Rattle.ir_cfg.specs.DefiniteUses.{IsDefinite, Uses, UsesAreDefinite, by_entry, by_line, in_arguments}
 use Rattle.ir_cfg.specs.SourceModules.{IsSourceModule}
+use Rattle.ir_cfg.proofs.UsedLaws.{use_within}
 use Rattle.definite_assign.proofs.TextLemmas.{stands_in_text}
 use Rattle.base_definite.proofs.MeetLaws.{meets_or_not}
 use Rattle.base_definite.proofs.base_paths.UndefinedLaws.{undefined_unused}
@@ -54,12 +54,6 @@ user_of func _ _ _ _ (by_entry number place entry value phi operand label from s
     names Null value is = absurd cc
     names (Fun called) value is = absurd cc
 
--- a use stands in a block
-used_in : (func : Function) (line value block place : ℕ) → Uses func line value block place → (own : BasicBlock) × (slice_get func.blocks block ≡ Some own) × (place ≤ length own.insts)
-used_in func _ _ _ _ (by_line number place value inst stands no_phi used) =
-    let within = slice_get_within (stands.block).insts place inst stands.in_block in (stands.block, stands.in_function, omega arith)
-used_in func _ _ _ _ (by_entry number place entry value phi operand label from stands is_one label_at operand_at value_at found) = (from, found, omega arith)
-
 -- ---- foldings
 
 module _ (func : Function) (table : Table) (folding : IsFolding func table) (definite : UsesAreDefinite func) (phis : PhisMeetEdges func) where
@@ -89,7 +83,7 @@ module _ (func : Function) (table : Table) (folding : IsFolding func table) (def
   settled_use line value block place used to is = λ path leads. elim (cases_lt to (length func.args)) [
     | inl below ↦ in_arguments below
     | inr high ↦
-        let own = used_in func line value block place used in
+        let own = use_within func line value block place used in
         elim (meets_or_not func to path block place own.0 leads own.1 own.2) [
           | inl meets ↦ meets
           | inr undefined ↦ absurd (elim (cases_Bool (stays table value)) [

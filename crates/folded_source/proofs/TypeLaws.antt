@@ -1,15 +1,13 @@
 -- Operands of a folded function have the types of those for which they stand, and what its lines name exists.
-use Rattle.std.proofs.Common.{◌≡◌, ℕ, ◌<◌, true, false, not, List, [], ◌∷◌, ◌++◌, length, map, refl, sym, ap, subst, ◌∙◌, inl, inr, arith}
+use Rattle.std.proofs.Common.{◌≡◌, ℕ, ◌<◌, true, false, not, List, [], ◌∷◌, ◌++◌, length, map, refl, sym, ap, subst, ◌∙◌, arith}
 use Rattle.std.specs.Prelude.{Option, Some, None, filter, is_some, slice_get}
 use Rattle.std.specs.List.{All, Contains, filter_map, flat_map}
-use Rattle.std.specs.Option.{IsSomeAnd, MatchOption}
 use Rattle.std.proofs.lemmas.Bool.{false≢true}
 use Rattle.std.proofs.lemmas.List.{length-map}
 use Rattle.std.proofs.lemmas.List.Elements.{All-append, All-filter, All-map}
-use Rattle.std.proofs.lemmas.Option.{none-some, same_Some, slice_get_within}
-use Rattle.std.proofs.lemmas.Slice.Zip.{AllZip-left}
+use Rattle.std.proofs.lemmas.Option.{none-some, slice_get_within}
 use Rattle.list_laws.proofs.Contents.{all_at, all_back, all_from_at, all_front, contains_get, get_contained}
-use Rattle.list_laws.proofs.Places.{filter_map_back, filter_map_forth, get_joined, map_back}
+use Rattle.list_laws.proofs.Places.{filter_map_back, filter_map_forth, map_back}
 use Rattle.sp_ids.specs.declared.ids.ValueId.{ValueId}
 use Rattle.ir_ast.specs.declared.types.Ty.{Ty}
 use Rattle.ir_ast.specs.declared.types.Ty.TheVariants as types
@@ -22,22 +20,23 @@ use Rattle.ir_ast.specs.Funcs.{Function, instructions_of}
 use Rattle.ir_ast.specs.Insts.{Instruction}
 use Rattle.ir_ast.specs.Lines.{IsLine, LineOf}
 use Rattle.ir_ast.specs.Modules.{ModuleContent}
-use Rattle.ir_ast.specs.Operands.{is_value, named, operands_of, value_in, values_used}
-use Rattle.ir_ast.specs.Scope.{Scope, scope_of}
+use Rattle.ir_ast.specs.Operands.{is_value, named, operands_of, value_in}
+use Rattle.ir_ast.specs.Scope.{scope_of}
 use Rattle.ir_ast.specs.Types.{is_first_class, is_integer, is_pointer, is_void}
 use Rattle.ir_ast.specs.Values.{Definition, argument, definition_type, definitions_of, outcome, outcome_type, value_types}
 use Rattle.ir_ast.specs.Widths.{line_widths, operator_widths, type_widths}
 use Rattle.ir_ast.specs.Faults.GroupShape.{number_at}
-use Rattle.ir_ast.specs.Faults.TypeClash.{Fits, IsTyped, asked}
+use Rattle.ir_ast.specs.Faults.TypeClash.{Fits, IsTyped}
 use Rattle.ir_ast.specs.Faults.UnknownName.{NamesOfModule}
 use Rattle.ir_cfg.proofs.KeepsPlaces.{kept_get, marks_before}
+use Rattle.ir_cfg.proofs.UsedLaws.{used_type}
 use Rattle.folded_forms.specs.Folded.{Table, folded, folded_line, folded_operand, numbered, stands_for, stays}
 use Rattle.folded_source.proofs.FormLaws.{Carries}
-use Rattle.base_laws.proofs.PlacedLaws.{has_result}
 use Rattle.base_definite.proofs.base_paths.GivesLaws.{given_named}
 use Rattle.folded_source.proofs.LineLaws.{line_stays}
 use Rattle.folded_source.proofs.Settled.{IsSettled, IsSettledOperand, operands_folded}
 use Rattle.folded_source.proofs.ValueLaws.{new_types, value_counted, value_marked, value_marks}
+use Rattle.object_meaning.proofs.GivenLaws.{has_result}
 
 -- ---- no value is void
 
@@ -119,43 +118,6 @@ no_void func args lines value ty at =
     let from = map_back definition_type (definitions_of func) value ty at in
     ap is_void from.is ∙ good_there func value from.before from.stands (all_at IsGood (definitions_of func) value from.before good from.stands)
 
--- ---- what a typed line uses has a type
-
-used_type : (scope : Scope) (inst : Instruction) → IsTyped scope inst → (one : Operand) → Contains (operands_of inst) one → (ty : Ty) × Fits scope.values one ty
-used_type scope inst typed one inside =
-    let at = get_contained (operands_of inst) one inside in
-    elim (get_joined inst.operands (map (λ (entry : Ty × Operand). entry.1) inst.bundle) at.0 one at.1) [
-      | inl own ↦
-          let asks = asked inst.op inst.ty (length inst.operands) in
-          by (slice_get asks at.0)
-          (subst (λ (found : Option Operand). MatchOption found (Unit {0}) (λ each. IsSomeAnd (slice_get asks at.0) (Fits scope.values each))) own
-          (AllZip-left (Fits scope.values) inst.operands asks typed.operands at.0))
-      | inr there ↦
-          let before = map_back (λ (entry : Ty × Operand). entry.1) inst.bundle there.0 one there.2 in (
-            (before.before).0,
-            subst (λ (o : Operand). Fits scope.values o (before.before).0) (sym before.is)
-                (all_at (λ (entry : Ty × Operand). Fits scope.values entry.1 entry.0) inst.bundle there.0 before.before typed.bundle before.stands),
-          )
-    ]
-  where
-    by : (found : Option Ty) → IsSomeAnd found (Fits scope.values one) → (ty : Ty) × Fits scope.values one ty
-    by None none = absurd none
-    by (Some ty) fits = (ty, fits)
-
-value_typed : (values : List Ty) (one : Operand) (value : ℕ) (ty : Ty) → value_in one ≡ Some value → Fits values one ty → slice_get values value ≡ Some ty
-value_typed values (Value id) value ty is fits = ap (slice_get values) (sym (same_Some id.0 value is)) ∙ fits
-value_typed values (Int number) value ty is fits = absurd (none-some value is)
-value_typed values Null value ty is fits = absurd (none-some value is)
-value_typed values (Fun called) value ty is fits = absurd (none-some value is)
-
-pub values_known : (content : ModuleContent) (func : Function) (inst : Instruction) → IsTyped (scope_of content func) inst → All (λ value. value < length (definitions_of func)) (values_used inst)
-values_known content func inst typed = all_from_at (λ value. value < length (definitions_of func)) (values_used inst) (λ place value at.
-    let from = filter_map_back value_in (operands_of inst) value place at in
-    let type = used_type (scope_of content func) inst typed from.item (contains_get (operands_of inst) from.place from.item from.stands) in
-    let within = slice_get_within (value_types func) value type.0 (value_typed (value_types func) from.item value type.0 from.gives type.1) in
-    let long = length-map (definitions_of func) definition_type in
-    omega (arith, within, long))
-
 -- ---- operands under the table
 
 no_function : (one : Operand) (values : List Ty) (ty : Ty) → Fits values one ty → is_void ty ≡ false → is_value one ≡ true
@@ -202,7 +164,8 @@ module _ (content : ModuleContent) (func : Function) (table : Table) (settled : 
       → IsTyped (scope_of content func) inst → (one : Operand) → Contains (operands_of inst) one → Carries (value_types func) (value_types (folded func table)) one (folded_operand table one)
   carried place inst at stay typed one inside =
       let own = settled.operands place inst at stay one inside in
-      let type = used_type (scope_of content func) inst typed one inside in
+      let at = get_contained (operands_of inst) one inside in
+      let type = used_type (scope_of content func) inst typed at.0 one at.1 in
       record {
         fits = λ ty fits. number_fits (stands_for table one) ty own.stays_here (own.fits ty fits);
         plain = plain_stays table one;

@@ -13,8 +13,8 @@ use Rattle.graph_search.specs.Paths.{Marked}
 use Rattle.ir_cfg.specs.Unreached.{kept_of}
 use Rattle.ir_cfg.proofs.KeepsPlaces.{kept_map, kept_some, map_through, marks_before}
 use Rattle.folded_forms.specs.Folded.{Table, folded, folded_insts, folded_line, stays}
-use Rattle.base_laws.proofs.PlacedLaws.{has_result}
 use Rattle.folded_source.proofs.LineLaws.{folded_front, folded_text, line_marks}
+use Rattle.object_meaning.proofs.GivenLaws.{has_result}
 
 -- a mark for each of these values, on those that stay
 abbrev pub marks_from : Table → ℕ → ℕ → List Bool

@@ -1,2 +1,3 @@
 pub mod ReturnLemmas
+pub mod LayoutLemmas
 mod Samples

@@ -2,19 +2,15 @@
 use Rattle.std.proofs.Common.{◌≡◌, ◌∙◌, ℕ, suc, ◌+◌, ◌*◌, ◌≤◌, Bool, true, false, cond, List, [], ◌∷◌, ◌++◌, length, refl, ap, sym, subst, arith}
 use Rattle.std.specs.List.{prefix_len}
 use Rattle.ir_ast.specs.declared.ops.Op.{Op}
-use Rattle.ir_ast.specs.declared.ops.Op.TheVariants.{Statepoint, GcResult, GcRelocate}
+use Rattle.ir_ast.specs.declared.ops.Op.TheVariants.{Statepoint}
 use Rattle.ir_ast.specs.Insts.{Instruction}
 use Rattle.ir_ast.specs.Ops.{is_terminator}
 use Rattle.ir_ast.specs.Blocks.{EndsAtTerminator}
+use Rattle.ir_ast.proofs.OpLaws.{end_member}
 use Rattle.object_meaning.specs.Frames.{is_member}
 use Rattle.frame_forms.specs.Groups.{group_size}
 use Rattle.frame_forms.specs.CodeAddresses.{returns_from}
 use Rattle.std.proofs.lemmas.List.Sums.{prefix_len-le-length}
-
-no_member : (op : Op) → is_terminator op ≡ true → is_member op ≡ false
-no_member GcResult ends = cc
-no_member GcRelocate ends = cc
-no_member _ ends = refl
 
 pub no_group : (op : Op) (rest other : List Instruction) → is_terminator op ≡ true → group_size op rest ≡ group_size op other
 no_group (Statepoint id callee types) rest other ends = cc
@@ -29,7 +25,7 @@ prefix_stops p (x ∷ before) last after fails = ap (λ n. cond (p x) (1 + n) 0)
 pub group_stops : (op : Op) (before : List Instruction) (last : Instruction) (after : List Instruction) → is_terminator last.op ≡ true
     → group_size op ((before ++ last ∷ []) ++ after) ≡ group_size op (before ++ last ∷ [])
 group_stops (Statepoint id callee types) before last after ends =
-    prefix_stops (λ (inst : Instruction). is_member inst.op) before last after (no_member last.op ends)
+    prefix_stops (λ (inst : Instruction). is_member inst.op) before last after (end_member last.op ends)
 group_stops _ before last after ends = refl
 
 returns_at : (place : ℕ) (before : List Instruction) (last : Instruction) (after : List Instruction) → is_terminator last.op ≡ true

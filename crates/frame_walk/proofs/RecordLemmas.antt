@@ -1,12 +1,12 @@
 -- What a record says, location by location.
-use Rattle.std.proofs.Common.{◌≡◌, ℕ, suc, ◌+◌, ◌-◌, ◌/◌, ◌%◌, ◌<◌, ◌≤◌, List, [], ◌∷◌, length, take, drop, get_or, refl, sym, ap, ◌∙◌, subst, arith, true, false, Bool, Some, eqb, leb, ltb, ◌&&◌}
-use Rattle.std.specs.Prelude.{int_le, pos, slice_get, unsigned_abs}
+use Rattle.std.proofs.Common.{◌≡◌, ℕ, suc, ◌+◌, ◌-◌, ◌/◌, ◌%◌, ◌<◌, ◌≤◌, List, [], ◌∷◌, length, take, drop, refl, sym, ap, ◌∙◌, subst, arith, true, Bool, Some, eqb, ltb, ◌&&◌}
+use Rattle.std.specs.Prelude.{slice_get}
 use Rattle.std.specs.List.{list_all}
-use Rattle.std.proofs.lemmas.Bool.{and_parts, eq-eqb, false≢true, leb-true, lt-ltb}
+use Rattle.std.proofs.lemmas.Bool.{eq-eqb, lt-ltb}
 use Rattle.std.proofs.lemmas.List.{drop-drop, drop_more, length-drop}
 use Rattle.std.proofs.lemmas.Option.{get_or_from_slice_get, slice_get_within}
 use Rattle.map_bytes.specs.declared.values.Place.{Place}
-use Rattle.frame_walk.specs.Maps.{FrameEntry, Pair, deopt_count, deopt_places, is_constant, is_deopt, is_slot, opens, pair_places, pairs_from, pairs_in, pairs_of, usable, word_place}
+use Rattle.frame_walk.specs.Maps.{FrameEntry, deopt_count, deopt_places, is_deopt, is_slot, opens, pair_places, pairs_from, pairs_in, pairs_of, usable, word_place}
 
 one_more : (places : List Place) (i : ℕ) (x : Place) → slice_get places i ≡ Some x → drop i places ≡ x ∷ drop (i + 1) places
 one_more places i x e =

@@ -22,13 +22,14 @@ use Rattle.ir_ast.specs.Faults.Reserved.{IsInsertedName, IsExternalName}
 use Rattle.ir_ast.specs.Faults.PhiEdges.{is_phi, PhiIsRight, PhisAreRight}
 use Rattle.ir_cfg.specs.Limits.{HasNames}
 use Rattle.ir_cfg.specs.DefiniteUses.{UsesAreDefinite}
+use Rattle.ir_cfg.proofs.NameLaws.{differ, not_inserted, absent, all_distinct, names_distinct}
 use Rattle.generated_forms.specs.Lines.{numbered_name, value, phi_line}
 use Rattle.generated_forms.specs.Shapes.{making, merging, looping}
 use Rattle.generated_forms.specs.Modules.{function, parameters}
 use Rattle.generated_forms.proofs.Ends.{ends_well, ends_from}
 use Rattle.generated_source.proofs.Lines.{IsFine, Calls, Stays, fine_new, fine_field, fine_load, fine_store, fine_store_literal, fine_add, fine_add_literal, fine_below, fine_choice, fine_count, fine_call, fine_jump, fine_branch, fine_return}
 use Rattle.generated_source.proofs.Uses.{uses_settle, uses_settled, blocks_settle, lines_settle, line_settles, entries_settle, entry_settles, settles, given_before, is_home, entry_length}
-use Rattle.generated_source.proofs.Names.{differ, all_distinct, absent, names_distinct, not_inserted, numbered_spelled, free_function}
+use Rattle.generated_source.proofs.Names.{numbered_spelled, free_function}
 use Rattle.generated_source.proofs.Phis.{phis_first, rest_plain, plain, phis_right, none_right, head_of, two_entries, HeadsAreRight}
 use Rattle.std.proofs.lemmas.Option.{none-some, same_Some}
 

@@ -23,13 +23,14 @@ use Rattle.ir_ast.specs.Faults.Reserved.{IsInsertedName}
 use Rattle.ir_ast.specs.Faults.PhiEdges.{is_phi, PhisAreRight}
 use Rattle.ir_cfg.specs.Limits.{IsName}
 use Rattle.ir_cfg.specs.DefiniteUses.{Stands, by_line, by_entry, IsDefinite, UsesAreDefinite, text_place}
+use Rattle.ir_cfg.proofs.NameLaws.{differ, first_byte, not_inserted, free_main, distinct_nil, distinct_cons, absent, all_distinct, names_distinct}
 use Rattle.ir_ast.specs.Faults.GroupShape.{number_at}
 use Rattle.generated_forms.specs.Lines.{numbered_name, new_line, call_line, return_line}
 use Rattle.generated_forms.specs.Modules.{visit, visits, main_of}
 use Rattle.generated_forms.proofs.Visits.{main_ends, main_length}
 use Rattle.generated_source.proofs.Lines.{IsFine, Calls, Has, Stays, fine_new, fine_call_literal, fine_print, fine_return_literal}
 use Rattle.generated_source.proofs.Uses.{GivenBefore, before_definite}
-use Rattle.generated_source.proofs.Names.{differ, names_distinct, all_distinct, absent, distinct_nil, distinct_cons, numbered_spelled, numbered_apart, not_inserted, free_main, first_byte}
+use Rattle.generated_source.proofs.Names.{numbered_spelled, numbered_apart}
 use Rattle.generated_source.proofs.Phis.{phis_first, rest_plain, plain, head_of, none_right}
 use Rattle.generated_source.proofs.Functions.{IsSound, is_plain_value, plain_definition, plain_stays}
 use Rattle.list_laws.proofs.Ranges.{range_get}

@@ -1,14 +1,12 @@
 -- Generated modules are source modules.
-use Rattle.std.proofs.Common.{◌≡◌, ◌≢◌, ◌∙◌, ℕ, zero, suc, ◌+◌, ◌*◌, ◌<◌, ◌≤◌, List, [], ◌∷◌, ◌++◌, length, map, Some, refl, sym, ap, subst, inr, codes, arith}
-use Rattle.std.specs.Prelude.{slice_get}
+use Rattle.std.proofs.Common.{◌≡◌, ◌≢◌, ◌∙◌, ℕ, zero, suc, ◌+◌, ◌*◌, ◌<◌, ◌≤◌, List, [], ◌∷◌, ◌++◌, length, map, refl, sym, ap, subst, inr, codes, arith}
 use Rattle.std.specs.Option.{option_map}
 use Rattle.std.specs.List.{All, flat_map, range_with_len}
 use Rattle.std.proofs.lemmas.Grind.{flat_map-append}
 use Rattle.std.proofs.lemmas.Fmt.{length-decimal-le_succ}
-use Rattle.std.proofs.lemmas.List.{append-nil, length-append, length-map, map-append}
+use Rattle.std.proofs.lemmas.List.{append-nil, length-append, map-append}
 use Rattle.std.proofs.lemmas.List.Elements.{All-append, All-from_recursion}
 use Rattle.std.proofs.lemmas.List.FromFn.{length-map-range_with_len}
-use Rattle.list_laws.proofs.Places.{get_map, get_front}
 use Rattle.ir_cfg.proofs.KeepsForms.{flat_all}
 use Rattle.ir_ast.specs.declared.funcs.Arg.{Arg}
 use Rattle.ir_ast.specs.declared.ops.Operand.TheVariants.{Int}
@@ -23,17 +21,16 @@ use Rattle.ir_ast.specs.Faultless.{FunctionHasNoFault, HasNoFault}
 use Rattle.ir_ast.specs.Faults.TypeClash.{FunctionIsTyped}
 use Rattle.ir_cfg.specs.Limits.{IsName}
 use Rattle.ir_cfg.specs.TypedModules.{IsTypedFunction, IsTypedModule}
-use Rattle.generated_forms.specs.Draws.{drawn, state_after}
+use Rattle.ir_cfg.proofs.NameLaws.{differ, first_byte, absent, all_distinct, names_distinct}
+use Rattle.generated_forms.specs.Draws.{state_after}
 use Rattle.generated_forms.specs.Bodies.{Shape, Making, Merging, Looping, shape_at, constant_at, bound_of, body}
 use Rattle.generated_forms.specs.Lines.{numbered_name, return_line}
 use Rattle.generated_forms.specs.Modules.{node, function, function_at, visits, main_of, generated}
 use Rattle.generated_forms.proofs.Visits.{main_length}
-use Rattle.generated_source.specs.Statements.{GeneratedIsSource, GeneratedHasNoBundles}
+use Rattle.generated_source.specs.Statements.{GeneratedIsSource}
 use Rattle.generated_source.proofs.Lines.{module_of, Calls}
-use Rattle.generated_source.proofs.Names.{differ, names_distinct, all_distinct, absent, first_byte}
 use Rattle.generated_source.proofs.Functions.{IsSound, making_sound, looping_sound, first_sound, later_sound}
 use Rattle.generated_source.proofs.Main.{map_range_all, distinct_numbered, main_sound}
-use Rattle.list_laws.proofs.Ranges.{range_get}
 use Rattle.generated_runs.proofs.Chain.{drawn_below}
 use Rattle.generated_runs.proofs.Main.{function_there}
 
@@ -222,7 +219,3 @@ module _ (seed size : ℕ) (few : size ≤ 1000) where
 pub generated_is_source : GeneratedIsSource
 unfolding generated
 generated_is_source seed size few = record { typed = typed_module seed size few; definite = λ k d less. (sound_all seed size few k d less).definite }
-
-pub generated_has_no_bundles : GeneratedHasNoBundles
-unfolding generated
-generated_has_no_bundles seed size few k d less j e below = ((sound_all seed size few k d less).lines j e below).bundle

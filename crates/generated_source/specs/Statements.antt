@@ -1,14 +1,8 @@
 -- What is proved of the form of generated modules.
 use Rattle.std.specs.Prelude.{ℕ, ◌≤◌}
-use Rattle.std.specs.List.{All}
-use Rattle.ir_ast.specs.Bundles.{HasNoBundle}
 use Rattle.ir_cfg.specs.SourceModules.{IsSourceModule}
 use Rattle.generated_forms.specs.Modules.{generated}
 
 -- each is a source module
 abbrev pub GeneratedIsSource : Type 0
 GeneratedIsSource = (seed size : ℕ) → size ≤ 1000 → IsSourceModule (generated seed size)
-
--- no call of one has a bundle
-abbrev pub GeneratedHasNoBundles : Type 0
-GeneratedHasNoBundles = (seed size : ℕ) → size ≤ 1000 → All HasNoBundle (generated seed size).funcs

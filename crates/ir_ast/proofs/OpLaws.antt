@@ -1,9 +1,10 @@
 -- What the tests of operators, operands, types and marks say.
-use Rattle.std.proofs.Common.{◌≡◌, ℕ, zero, suc, Bool, true, false, List, [], ◌∷◌, refl, ap, slice_get}
+use Rattle.std.proofs.Common.{◌≡◌, ◌∙◌, ℕ, zero, suc, Bool, true, false, List, [], ◌∷◌, map, refl, sym, ap, slice_get}
 use Rattle.std.specs.Prelude.{Option, Some, None, option_to_list}
 use Rattle.std.specs.List.{filter_map}
 use Rattle.std.proofs.lemmas.Bool.{false≢true, eqb-true}
-use Rattle.std.proofs.lemmas.Option.{get_or_from_slice_get}
+use Rattle.std.proofs.lemmas.List.{take-map}
+use Rattle.std.proofs.lemmas.Option.{get_or_from_slice_get, none-some, same_Some}
 use Rattle.sp_ids.specs.declared.ids.BlockId.{BlockId}
 use Rattle.ir_ast.specs.declared.types.Ty.{Ty}
 use Rattle.ir_ast.specs.declared.types.Ty.TheVariants as types
@@ -15,7 +16,10 @@ use Rattle.ir_ast.specs.Ops.{is_phi, is_member, is_statepoint, is_terminator}
 use Rattle.ir_ast.specs.Types.{is_pointer}
 use Rattle.ir_ast.specs.Operands.{named, same_operand, value_in}
 use Rattle.ir_ast.specs.Derived.{is_merge}
+use Rattle.ir_ast.specs.Lines.{is_rewritten}
 use Rattle.ir_ast.specs.Lists.{has_mark}
+use Rattle.ir_ast.specs.Faults.DerivedEscapes.{leaving}
+use Rattle.ir_ast.specs.Faults.TypeClash.{Fits}
 
 pub phi_is : (op : Op) → is_phi op ≡ true → op ≡ ops.Phi
 phi_is ops.Phi is = refl
@@ -34,6 +38,32 @@ merge_goes_on op is = absurd cc
 pub phi_outside : (op : Op) → is_phi op ≡ true → (is_statepoint op ≡ false) × (is_member op ≡ false)
 phi_outside ops.Phi is = (refl, refl)
 phi_outside op is = absurd cc
+
+-- an operator of the source form belongs to no statepoint group
+pub plain_member : (op : Op) → is_rewritten op ≡ false → is_member op ≡ false
+plain_member ops.GcResult plain = absurd cc
+plain_member ops.GcRelocate plain = absurd cc
+plain_member op plain = refl
+
+-- neither does a terminator
+pub end_member : (op : Op) → is_terminator op ≡ true → is_member op ≡ false
+end_member ops.GcResult ends = cc
+end_member ops.GcRelocate ends = cc
+end_member op ends = refl
+
+-- operands that are others leave as what they are others of
+pub leaving_map : (f : Operand → Operand) (op : Op) (all : List Operand) → leaving op (map f all) ≡ map f (leaving op all)
+leaving_map f ops.Store all = take-map f 1 all
+leaving_map f (ops.Call callee types) all = refl
+leaving_map f ops.Ret all = refl
+leaving_map f op all = refl
+
+-- a value that fits has the type
+pub value_typed : (values : List Ty) (one : Operand) (value : ℕ) (ty : Ty) → value_in one ≡ Some value → Fits values one ty → slice_get values value ≡ Some ty
+value_typed values (Value id) value ty is fits = ap (slice_get values) (sym (same_Some id.0 value is)) ∙ fits
+value_typed values (Int number) value ty is fits = absurd (none-some value is)
+value_typed values Null value ty is fits = absurd (none-some value is)
+value_typed values (Fun called) value ty is fits = absurd (none-some value is)
 
 pub pointer_is : (ty : Ty) → is_pointer ty ≡ true → ty ≡ types.Ptr
 pointer_is types.Ptr is = refl

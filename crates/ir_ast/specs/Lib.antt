@@ -23,6 +23,5 @@ pub mod Derived
 pub mod Bases
 pub mod Faultless
 pub mod Callees
-pub mod Bundles
 pub mod Objects
 pub mod Spellings

@@ -1,15 +1,13 @@
 -- Derived pointers are those that they were, and stay in registers.
-use Rattle.std.proofs.Common.{◌≡◌, ℕ, zero, suc, Bool, List, [], ◌∷◌, length, get_or, take, map, refl, ap, sym, Some, slice_get, ◌∙◌, subst}
+use Rattle.std.proofs.Common.{◌≡◌, ℕ, Bool, List, [], length, get_or, map, refl, ap, sym, Some, slice_get, ◌∙◌, subst}
 use Rattle.std.specs.Bool.{⊤}
 use Rattle.std.specs.List.{All, filter, filter_map}
-use Rattle.std.proofs.lemmas.List.{take-map}
 use Rattle.std.proofs.lemmas.List.Elements.{All-map, All-append, All-filter}
-use Rattle.std.proofs.lemmas.Option.{none-some}
 use Rattle.list_laws.proofs.Places.{filter_map_back, filter_map_forth, map_back}
 use Rattle.list_laws.proofs.Contents.{all_at, all_from_at, contains_get, get_contained}
 use Rattle.sp_ids.specs.declared.ids.BlockId.{BlockId}
 use Rattle.ir_ast.specs.declared.ops.Op.{Op}
-use Rattle.ir_ast.specs.declared.ops.Op.TheVariants.{Phi, Store, Call, Ret}
+use Rattle.ir_ast.specs.declared.ops.Op.TheVariants.{Phi}
 use Rattle.ir_ast.specs.declared.ops.Operand.{Operand}
 use Rattle.ir_ast.specs.Insts.{Instruction}
 use Rattle.ir_ast.specs.Funcs.{Function, instructions_of}
@@ -17,6 +15,7 @@ use Rattle.ir_ast.specs.Values.{Definition, argument, outcome, definitions_of, G
 use Rattle.ir_ast.specs.Operands.{value_in, values_used, operands_of}
 use Rattle.ir_ast.specs.Derived.{Derived, by_step, by_merge, is_step, is_merge}
 use Rattle.ir_ast.specs.Faults.DerivedEscapes.{leaving, values_leaving, KeepsDerived, DerivedStay}
+use Rattle.ir_ast.proofs.OpLaws.{leaving_map}
 use Rattle.graph_search.specs.Paths.{Marked}
 use Rattle.ir_cfg.specs.Unreached.{Kept, kept_of, kept_by, value_marks, operand_kept, inst_kept, function_kept}
 use Rattle.ir_cfg.proofs.KeepsPlaces.{before_same, kept_back, marks_before, number_of_marked}
@@ -25,6 +24,7 @@ use Rattle.ir_cfg.proofs.KeepsValues.{definition_kept, left_definitions, named, 
 use Rattle.ir_cfg.proofs.KeepsUses.{Lasts, used_new, values_of_new}
 use Rattle.ir_cfg.proofs.KeepsTypes.{operand_marked}
 use Rattle.ir_cfg.proofs.KeepsNames.{left_operand_of}
+use Rattle.ir_cfg.proofs.UsedLaws.{leaving_at}
 
 -- an instruction that gives a value stands in a kept block
 abbrev GivesInKept : List Bool → Function → Definition → Type 0
@@ -133,25 +133,6 @@ leaving_left : (kept : Kept) (op : Op) (labels : List BlockId) (operands : List 
 leaving_left kept Phi labels operands = refl
 leaving_left kept op labels operands = refl
 
-leaving_new : (kept : Kept) (op : Op) (operands : List Operand) → leaving op (map (operand_kept kept) operands) ≡ map (operand_kept kept) (leaving op operands)
-leaving_new kept Store operands = take-map (operand_kept kept) 1 operands
-leaving_new kept (Call callee types) operands = refl
-leaving_new kept Ret operands = refl
-leaving_new kept op operands = refl
-
-get_taken : {A : Type 0} (n : ℕ) (xs : List A) (k : ℕ) (x : A) → slice_get (take n xs) k ≡ Some x → slice_get xs k ≡ Some x
-get_taken zero xs k x at = absurd (none-some x at)
-get_taken (suc n) [] k x at = absurd (none-some x at)
-get_taken (suc n) (y ∷ xs) zero x at = at
-get_taken (suc n) (y ∷ xs) (suc k) x at = get_taken n xs k x at
-
-leaving_at : (op : Op) (operands : List Operand) (k : ℕ) (operand : Operand) → slice_get (leaving op operands) k ≡ Some operand
-    → slice_get operands k ≡ Some operand
-leaving_at Store operands k operand at = get_taken 1 operands k operand at
-leaving_at (Call callee types) operands k operand at = at
-leaving_at Ret operands k operand at = at
-leaving_at op operands k operand at = absurd (none-some operand at)
-
 stays_new : (marks : List Bool) (func : Function) (inst : Instruction) → length marks ≡ length func.blocks
     → ((inst : Instruction) → IsKept marks func inst → Lasts marks func inst) → IsKept marks func inst → KeepsDerived func inst
     → KeepsDerived (function_kept marks func) (inst_new (kept_by marks func) (inst_left (kept_by marks func) inst))
@@ -160,7 +141,7 @@ stays_new marks func inst whole lasts stands stay =
     let left = inst_left kept inst in
     let leaves = leaving inst.op left.operands in
     let new : values_leaving (inst_new kept left) ≡ map (λ (v : ℕ). get_or kept.values v 0) (filter_map value_in leaves) =
-    ap (filter_map value_in) (leaving_new kept inst.op left.operands) ∙ values_of_new kept leaves in
+    ap (filter_map value_in) (leaving_map (operand_kept kept) inst.op left.operands) ∙ values_of_new kept leaves in
     all_from_at (λ (value : ℕ). Derived (function_kept marks func) value → ⊥) (values_leaving (inst_new kept left)) (λ k value at derived.
     let m = map_back (λ (v : ℕ). get_or kept.values v 0) (filter_map value_in leaves) k value (ap (λ (vs : List ℕ). slice_get vs k) (sym new) ∙ at) in
     let item = filter_map_back value_in leaves m.before k m.stands in

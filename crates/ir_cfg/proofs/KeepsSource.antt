@@ -5,6 +5,7 @@ use Rattle.std.proofs.lemmas.List.{length-append, length-map}
 use Rattle.std.proofs.lemmas.List.Elements.{All-map, All-weaker, length_all_zip}
 use Rattle.std.proofs.lemmas.Option.{none-some, same_Some, slice_get-map, slice_get_within}
 use Rattle.list_laws.proofs.Contents.{all_at, all_from_at}
+use Rattle.list_laws.proofs.Zips.{zip_map}
 use Rattle.ir_ast.specs.declared.modules.Form.{Form}
 use Rattle.ir_ast.specs.declared.modules.Form.TheVariants.{Source}
 use Rattle.ir_ast.specs.declared.types.Ty.{Ty}
@@ -153,14 +154,6 @@ zip_back R (x ∷ xs) [] zip k y at = absurd zip
 zip_back R (x ∷ xs) (first ∷ ys) zip zero y at = (x, refl, subst (R x) (same_Some first y at) zip.0)
 zip_back R (x ∷ xs) (first ∷ ys) zip (suc k) y at = zip_back R xs ys zip.1 k y at
 
-zip_map : {A C : Type 0} (R : A → A → Type 0) (f : A → C) → ((x y : A) → R x y → f y ≡ f x) → (xs ys : List A) → AllZip R xs ys
-    → map f ys ≡ map f xs
-zip_map R f same [] [] zip = refl
-zip_map R f same [] (y ∷ ys) zip = absurd zip
-zip_map R f same (x ∷ xs) [] zip = absurd zip
-zip_map {A} {C} R f same (x ∷ xs) (y ∷ ys) zip =
-    ap (λ (c : C). c ∷ map f ys) (same x y zip.0) ∙ ap (λ (cs : List C). f x ∷ cs) (zip_map R f same xs ys zip.1)
-
 -- what holds of each function of the new module
 all_after : (P : Function → Type 0) (funcs after : List Function) → AllZip DropsUnreached funcs after
     → ((k : ℕ) (func : Function) (marks : List Bool) → slice_get funcs k ≡ Some func → MarksReached (graph_of func) marks → P (function_kept marks func))
@@ -183,7 +176,7 @@ same_signatures : (content after : ModuleContent) → ModuleDropsUnreached conte
 same_signatures content after drops =
     zip_map DropsUnreached signature_of (λ func new drop. ap signature_of drop.rest) content.funcs after.funcs drops.functions
 
-same_called : (funcs after : List Function) (callee : Callee) → map signature_of after ≡ map signature_of funcs
+pub same_called : (funcs after : List Function) (callee : Callee) → map signature_of after ≡ map signature_of funcs
     → called_in after callee ≡ called_in funcs callee
 same_called funcs after (Fun func) same =
     sym (slice_get-map signature_of after func.0) ∙ ap (λ (ss : List Signature). slice_get ss func.0) same ∙ slice_get-map signature_of funcs func.0

@@ -6,6 +6,8 @@ pub mod PathLemmas
 pub mod CycleLemmas
 pub mod TypedLemmas
 pub mod KeptLemmas
+pub mod UsedLaws
+pub mod NameLaws
 pub mod KeepsPlaces
 pub mod KeepsLines
 pub mod KeepsValues

@@ -5,5 +5,6 @@ pub mod LawNames
 pub mod Steps
 pub mod AgainLemmas
 pub mod PlaceLemmas
+pub mod FirstLemmas
 pub mod FrontLemmas
 pub mod TableLemmas

@@ -4,6 +4,8 @@ pub mod Parted
 pub mod Parts
 pub mod Sections
 pub mod Places
+pub mod Firsts
+pub mod Hashing
 pub mod Scope
 pub mod Externals
 pub mod Modules

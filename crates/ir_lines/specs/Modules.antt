@@ -32,7 +32,7 @@ use Rattle.line_tokens.specs.declared.words.Conversion.TheVariants as conversion
 use Rattle.line_parts.specs.Parts.{Val}
 use Rattle.line_parts.specs.Parts as values
 use Rattle.line_parts.specs.Lists.{Given, given, function}
-use Rattle.ir_lines.specs.Statements.{Statement, Line, binary, compare, convert, select, phi, scalar_step, layout_step, load, store, call, jump, branch, switch, switch_case, ret_void, ret, unreachable, cast, statepoint, gc_result, gc_relocate}
+use Rattle.ir_lines.specs.Statements.{Statement, Line, binary, compare, convert, select, phi, scalar_step, layout_step, load, store, call, jump, branch, switch, switch_case, ret_void, ret, unreachable, cast, statepoint, gc_result, gc_relocate, kept_by}
 use Rattle.ir_lines.specs.Parts.{live_use, token_use, index_use}
 use Rattle.ir_lines.specs.Sections.{LayoutLine, Definition, Naming, BlockLines, layouts_of, definitions_of, arguments_named, values_of, blocks_of, cases_of}
 use Rattle.ir_lines.specs.Places.{place_in, number_of, number_in}
@@ -142,6 +142,10 @@ given_type one = type_of (passed_type one)
 abbrev pub used_operand : Known → Val × TypeWord → Operand
 used_operand known used = operand_of known used.1 used.0
 
+-- the entry of a bundle that it stands for
+abbrev pub kept_entry : Known → Val × TypeWord → Ty × Operand
+kept_entry known used = (type_of used.1, used_operand known used)
+
 -- the external of a name; other names than the first six are those of `gc_new`
 abbrev pub external_callee : Known → List ℕ → Callee
 external_callee known name =
@@ -169,6 +173,10 @@ place_of literal = min literal.magnitude (2 ^ 32 - 1)
 abbrev pub instruction : Option (List ℕ) → Op → Ty → List Operand → List BlockId → Instruction
 instruction result op ty operands labels =
     record { result = result; op = op; ty = ty; operands = operands; labels = labels; bundle = [] }
+
+-- the same with a bundle
+abbrev pub keeping : List (Ty × Operand) → Instruction → Instruction
+keeping bundle inst = record inst { bundle = bundle }
 
 -- the values and the labels of the cases that stand first among these lines
 abbrev pub case_value : List (List ℕ) → ℕ → Statement → Option Operand
@@ -212,8 +220,9 @@ instruction_said known behind (load result ty address) =
 instruction_said known behind (store ty value address) =
     Some (instruction None ops.Store (type_of ty) (operand_of known ty value ∷ operand_of known types.Managed address ∷ []) [])
 instruction_said known behind (call result made) =
-    Some (instruction result (ops.Call (callee_of known made.callee) (map given_type made.passed)) (type_of made.answer)
-    (map (passed_operand known) made.passed) [])
+    Some (keeping (map (kept_entry known) (kept_by made))
+    (instruction result (ops.Call (callee_of known made.callee) (map given_type made.passed)) (type_of made.answer)
+    (map (passed_operand known) made.passed) []))
 instruction_said known behind (jump to) = Some (instruction None ops.Br tys.Void [] (label_of known to ∷ []))
 instruction_said known behind (branch condition on_true on_false) =
     Some (instruction None ops.CondBr (tys.Int 1) (operand_of known (types.Int 1) condition ∷ [])
@@ -230,8 +239,9 @@ instruction_said known behind (cast result op from value to) =
     Some (instruction (Some result) (ops.Call (callee_of known []) []) (type_of to) [] [])
 -- a statepoint has its arguments first and then its live entries
 instruction_said known behind (statepoint result made live) =
-    Some (instruction (Some result) (ops.Statepoint (wrapped 64 made.id) (callee_of known made.callee) (map given_type made.passed))
-    (type_of made.signature.answer) (map (passed_operand known) made.passed ++ map (used_operand known) (map live_use live)) [])
+    Some (keeping (map (kept_entry known) made.kept)
+    (instruction (Some result) (ops.Statepoint (wrapped 64 made.id) (callee_of known made.callee) (map given_type made.passed))
+    (type_of made.signature.answer) (map (passed_operand known) made.passed ++ map (used_operand known) (map live_use live)) []))
 instruction_said known behind (gc_result result ty token) =
     Some (instruction (Some result) ops.GcResult (type_of ty) (used_operand known (token_use token) ∷ []) [])
 instruction_said known behind (gc_relocate result token base derived) =

@@ -6,7 +6,7 @@ use Rattle.line_parts.specs.Types.{Void, Int, Managed}
 use Rattle.line_tokens.specs.declared.literals.Literal.{Literal}
 use Rattle.line_parts.specs.Parts.{Val}
 use Rattle.line_parts.specs.Lists.{Given, given, function}
-use Rattle.ir_lines.specs.Statements.{Statement, binary, compare, convert, select, phi, scalar_step, layout_step, load, store, call, jump, branch, switch, switch_case, ret, cast, statepoint, gc_result, gc_relocate}
+use Rattle.ir_lines.specs.Statements.{Statement, binary, compare, convert, select, phi, scalar_step, layout_step, load, store, call, jump, branch, switch, switch_case, ret, cast, statepoint, gc_result, gc_relocate, kept_by}
 
 -- the type of a statepoint's result, a token; no other value has the type word `void`
 abbrev pub token_type : TypeWord
@@ -61,13 +61,13 @@ uses (scalar_step result element address width index) = (address, Managed) ∷ (
 uses (layout_step result named address width index place) = (address, Managed) ∷ (index, Int width) ∷ []
 uses (load result ty address) = (address, Managed) ∷ []
 uses (store ty value address) = (value, ty) ∷ (address, Managed) ∷ []
-uses (call result made) = filter_map passed_value made.passed
+uses (call result made) = filter_map passed_value made.passed ++ kept_by made
 uses (branch condition on_true on_false) = (condition, Int 1) ∷ []
 uses (switch width value default) = (value, Int width) ∷ []
 uses (switch_case width value to) = (value, Int width) ∷ []
 uses (ret ty value) = (value, ty) ∷ []
 uses (cast result op from value to) = (value, from) ∷ []
-uses (statepoint result made live) = filter_map passed_value made.passed ++ map live_use live
+uses (statepoint result made live) = filter_map passed_value made.passed ++ map live_use live ++ made.kept
 uses (gc_result result ty token) = token_use token ∷ []
 uses (gc_relocate result token base derived) = token_use token ∷ index_use base ∷ index_use derived ∷ []
 uses _ = []

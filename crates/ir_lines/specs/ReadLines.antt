@@ -35,6 +35,11 @@ abbrev pub IsReadPassed : Given → Type 0
 IsReadPassed (given ty value) = IsValueType ty
 IsReadPassed (function name) = ⊤
 
+-- what a bundle spells, that of a leaf too
+pub record IsReadBundle (kept : List (Val × TypeWord)) : Type 0 where
+  pub typed : All (λ used. IsValueType used.1) kept
+  pub few : length kept ≤ 64
+
 -- a call with a result answers a value, and one without answers nothing
 abbrev pub IsReadCall : Option (List ℕ) → TypeWord → Type 0
 IsReadCall None answer = answer ≡ Void
@@ -52,6 +57,7 @@ pub record IsReadStatepoint (result : List ℕ) (made : Guarded) (live : List Va
   pub answered : IsAnswerType made.signature.answer
   pub passed : All IsReadPassed made.passed
   pub few : length live ≤ 16384
+  pub kept : IsReadBundle made.kept
 
 abbrev pub SaysRead : Statement → Type 0
 SaysRead (layout name fields) = IsName name × (length name ≤ 4096) × (length fields ≤ 64)
@@ -66,7 +72,7 @@ SaysRead (scalar_step result element address width index) = IsName result × IsW
 SaysRead (layout_step result named address width index place) = IsName result × IsWidth width
 SaysRead (load result ty address) = IsName result × IsValueType ty
 SaysRead (store ty value address) = IsValueType ty
-SaysRead (call result made) = IsReadCall result made.answer × All IsReadPassed made.passed
+SaysRead (call result made) = IsReadCall result made.answer × All IsReadPassed made.passed × IsReadBundle made.kept
 SaysRead (switch width value default) = IsWidth width
 SaysRead (switch_case width value to) = is_case_value value ≡ true
 SaysRead (ret ty value) = IsValueType ty

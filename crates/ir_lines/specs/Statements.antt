@@ -1,6 +1,7 @@
 -- What a line says, by its parts.
 use Rattle.line_forms.specs.declared.forms.Form.TheVariants as forms
-use Rattle.std.specs.Prelude.{ℕ, List, [], map, Option, Some, None, slice_get, false}
+use Rattle.std.specs.Prelude.{ℕ, Bool, ◌||◌, List, [], map, codes, Option, Some, None, slice_get, false, if◌then◌else◌}
+use Rattle.std.specs.Str.{bytes_eq}
 use Rattle.line_forms.specs.declared.forms.Form.{Form}
 use Rattle.line_tokens.specs.declared.words.Binary.{Binary}
 use Rattle.line_tokens.specs.declared.words.Conversion.{Conversion}
@@ -23,19 +24,32 @@ pub record Signature : Type 0 where
   pub answer : TypeWord
   pub parameters : List TypeWord
 
--- a call: the type of what it answers, the function's name, the arguments
+-- a call: the type of what it answers, the function's name, the arguments, and the values that its "deopt" bundle spells,
+-- each with its type
 pub record Called : Type 0 where
   pub answer : TypeWord
   pub callee : List ℕ
   pub passed : List Given
+  pub kept : List (Val × TypeWord)
 
--- a statepoint's call: its id, the function's type and name, the number of arguments that it tells, the arguments
+-- a statepoint's call: its id, the function's type and name, the number of arguments that it tells, the arguments, and the
+-- values of its "deopt" bundle
 pub record Guarded : Type 0 where
   pub id : Literal
   pub signature : Signature
   pub callee : List ℕ
   pub count : Literal
   pub passed : List Given
+  pub kept : List (Val × TypeWord)
+
+-- the externals that reach no safepoint
+abbrev pub is_leaf_name : List ℕ → Bool
+is_leaf_name name =
+    bytes_eq name (codes "print_i64") || bytes_eq name (codes "read_i64") || bytes_eq name (codes "gc_check") || bytes_eq name (codes "gc_same")
+
+-- what a call keeps of its bundle: a leaf, which is told by the name that the call spells, nothing
+abbrev pub kept_by : Called → List (Val × TypeWord)
+kept_by made = if is_leaf_name made.callee then [] else made.kept
 
 -- what a line says; `%T = type { F, F, .. }` is a layout
 pub data Statement : Type 0 where
@@ -57,7 +71,7 @@ pub data Statement : Type 0 where
   layout_step : (result named : List ℕ) → (address : Val) → (width : ℕ) → (index : Val) → (place : Option Literal) → Statement
   load : (result : List ℕ) → (ty : TypeWord) → (address : Val) → Statement
   store : (ty : TypeWord) → (value address : Val) → Statement
-  -- `%x = call T @f(T V, ..)`, `call void @f(T V, ..)`
+  -- `%x = call T @f(T V, ..)`, `call void @f(T V, ..)`, and maybe `[ "deopt"(T V, ..) ]`
   call : (result : Option (List ℕ)) → (made : Called) → Statement
   jump : (to : List ℕ) → Statement
   branch : (condition : Val) → (on_true on_false : List ℕ) → Statement
@@ -71,8 +85,8 @@ pub data Statement : Type 0 where
   unreachable : Statement
   -- `%x = CAST T V to U`
   cast : (result : List ℕ) → (op : Cast) → (from : TypeWord) → (value : Val) → (to : TypeWord) → Statement
-  -- `%t = call token (..) @llvm.experimental.gc.statepoint.p0(.. @f, .. T V, .. ) [ "gc-live"(P V, ..) ]`, what it
-  -- calls and its live entries; this and the next two stand in the rewritten form alone
+  -- `%t = call token (..) @llvm.experimental.gc.statepoint.p0(.. @f, .. T V, .. ) [ "deopt"(T V, ..), "gc-live"(P V, ..) ]`,
+  -- what it calls and its live entries; this and the next two stand in the rewritten form alone
   statepoint : (result : List ℕ) → (made : Guarded) → (live : List Val) → Statement
   -- `%x = call T @llvm.experimental.gc.result.S(token %t)`
   gc_result : (result : List ℕ) → (ty : TypeWord) → (token : List ℕ) → Statement
@@ -142,17 +156,22 @@ abbrev pub handed_of : Option Item → List Given
 handed_of (Some (items.handed ps)) = ps
 handed_of _ = []
 
-abbrev pub live_of : Option Item → List Val
-live_of (Some (items.live vs)) = vs
-live_of _ = []
+-- the "deopt" bundle of a call
+abbrev pub kept_of : Option Item → List (Val × TypeWord)
+kept_of (Some (items.deopt us)) = us
+kept_of _ = []
+
+-- that of a statepoint, and its live entries
+abbrev pub bundles_of : Option Item → List (Val × TypeWord) × List Val
+bundles_of (Some (items.bundles us vs)) = (us, vs)
+bundles_of _ = ([], [])
 
 abbrev pub strategy_of : Option Item → Option (List ℕ)
 strategy_of (Some (items.strategy s)) = s
 strategy_of _ = None
 
--- a call that has nothing besides
-abbrev pub calling : TypeWord → List ℕ → List Given → Called
-calling answer callee passed = record { answer = answer; callee = callee; passed = passed }
+abbrev pub calling : TypeWord → List ℕ → List Given → List (Val × TypeWord) → Called
+calling answer callee passed kept = record { answer = answer; callee = callee; passed = passed; kept = kept }
 
 -- a line of a form, with what stands at its slots; a dropped line says nothing and is none of the readings
 abbrev pub of_form : Form → (ℕ → Option Item) → Statement
@@ -170,8 +189,8 @@ of_form forms.ScalarElement at = scalar_step (name_of (at 0)) (type_of (at 1)) (
 of_form forms.LayoutElement at = layout_step (name_of (at 0)) (name_of (at 1)) (value_of (at 2)) (width_of (at 3)) (value_of (at 4)) (place_of (at 5))
 of_form forms.Load at = load (name_of (at 0)) (type_of (at 1)) (value_of (at 2))
 of_form forms.Store at = store (type_of (at 0)) (value_of (at 1)) (value_of (at 2))
-of_form forms.ValueCall at = call (Some (name_of (at 0))) (calling (type_of (at 1)) (called_of (at 2)).0 (called_of (at 2)).1)
-of_form forms.VoidCall at = call None (calling types.Void (called_of (at 0)).0 (called_of (at 0)).1)
+of_form forms.ValueCall at = call (Some (name_of (at 0))) (calling (type_of (at 1)) (called_of (at 2)).0 (called_of (at 2)).1 (kept_of (at 3)))
+of_form forms.VoidCall at = call None (calling types.Void (called_of (at 0)).0 (called_of (at 0)).1 (kept_of (at 1)))
 of_form forms.Jump at = jump (name_of (at 0))
 of_form forms.Branch at = branch (value_of (at 0)) (name_of (at 1)) (name_of (at 2))
 of_form forms.Switch at = switch (width_of (at 0)) (value_of (at 1)) (name_of (at 2))
@@ -187,7 +206,8 @@ of_form forms.Statepoint at = statepoint (name_of (at 0)) (record {
   callee = name_of (at 4);
   count = literal_of (at 5);
   passed = handed_of (at 6);
-}) (live_of (at 7))
+  kept = (bundles_of (at 7)).0;
+}) (bundles_of (at 7)).1
 of_form forms.GcResult at = gc_result (name_of (at 0)) (type_of (at 1)) (name_of (at 2))
 of_form forms.GcRelocate at = gc_relocate (name_of (at 0)) (name_of (at 1)) (literal_of (at 2)) (literal_of (at 3))
 

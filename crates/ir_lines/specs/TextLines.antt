@@ -81,7 +81,8 @@ Stand place (l ∷ ls) = Goes (place_behind place l.says) (λ next. Stand next l
 abbrev pub statement_fits : Statement → Bool
 statement_fits (layout name fields) = name_fits name && nat_le (length fields) 64
 statement_fits (define answer name arguments strategy) = name_fits name && nat_le (length arguments) 64
-statement_fits (statepoint result made live) = nat_le (length live) 16384
+statement_fits (call result made) = nat_le (length made.kept) 64
+statement_fits (statepoint result made live) = nat_le (length made.kept) 64 && nat_le (length live) 16384
 statement_fits _ = true
 
 -- ---- what only one of the two forms has or asks

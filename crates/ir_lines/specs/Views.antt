@@ -2,10 +2,10 @@
 use Rattle.std.specs.Prelude.{List, map}
 use Rattle.line_forms.specs.declared.readings.Reading.{Reading}
 use Rattle.ir_reader.specs.declared.raw.NumberedReading.{NumberedReading}
-use Rattle.line_forms.specs.Seen.{seen}
 use Rattle.ir_reader.specs.Raws.{seen_numbered}
 use Rattle.line_forms.specs.declared.readings.StatepointCall.{StatepointCall}
 use Rattle.line_parts.specs.Seen.{seen_type, seen_passed}
+use Rattle.line_forms.specs.Seen.{seen, seen_kept}
 use Rattle.ir_lines.specs.Statements.{Statement, Line, Guarded, stated, line_of}
 
 abbrev pub said : Reading → Statement
@@ -25,4 +25,5 @@ seen_guarded c = record {
   callee = c.callee.bytes.now;
   count = c.count;
   passed = map seen_passed c.passed.items;
+  kept = map seen_kept c.kept.items;
 }

@@ -4,6 +4,8 @@
 
 pub mod best;
 pub mod faults;
+mod firsts;
+mod hashing;
 pub mod literals;
 pub mod names;
 pub mod operands;

@@ -5,27 +5,26 @@ ghost use Rattle.std.specs.List.{Contains};
 ghost use Rattle.std.specs.Str.{bytes_eq};
 ghost use Rattle.ir_lines.specs.Places.{place_in, number_of, number_in};
 
-use name_chains::Chains;
+use crate::firsts::Firsts;
 use std::alloc::{AllocError, Global};
 use std::marker::Model;
 
 /// A list of names, in which each name stands for its first place. Contracts see a list of lists of bytes.
 #[derive(Drop)]
 pub struct Names<'n> {
-    alloc: Global,
     list: Vec<&'n [u8]>,
-    chains: Chains,
+    firsts: Firsts<'n>,
 }
 
 impl<'n> Model for Names<'n> {
     ghost use Rattle.std.specs.Prelude.{ℕ, List, map};
-    ghost use Rattle.name_chains.specs.Chains.{IsChained};
+    ghost use Rattle.ir_lines.specs.Firsts.{IsFirsts};
 
     ghost Value = { List (List ℕ) };
 
     ghost view = { λ names. map (λ name. name.now) names.list.items };
 
-    ghost invariant = { λ names. IsChained (map (λ one. one.now) names.list.items) names.chains };
+    ghost invariant = { λ names. IsFirsts (map (λ one. one.now) names.list.items) names.firsts };
 }
 
 /// The number of a place, or 2^32 - 1 for none.
@@ -44,9 +43,8 @@ impl<'n> Names<'n> {
         ensures { result ≡ [] }
     {
         Names {
-            alloc,
             list: Vec::new(alloc),
-            chains: Chains::none(alloc),
+            firsts: Firsts::new(alloc),
         }
     }
 
@@ -55,9 +53,8 @@ impl<'n> Names<'n> {
         ensures { IfOk result (λ names. names ≡ []) }
     {
         Ok(Names {
-            alloc,
             list: Vec::with_capacity(alloc, room)?,
-            chains: Chains::with_room(alloc, room)?,
+            firsts: Firsts::with_room(alloc, room)?,
         })
     }
 
@@ -66,10 +63,9 @@ impl<'n> Names<'n> {
         ensures added { OnOk result (self.new ≡ self.old ++ name.now ∷ []) }
         ensures is_new { IfOk result (λ is_new. is_new ≡ is_none (place_in self.old name.now)) }
     {
-        self.chains.make_room(self.alloc, self.list.as_slice())?;
         self.list.reserve(1)?;
-        let is_new = self.chains.link(self.list.as_slice(), name)?;
-        self.list.push(name).unwrap();
+        let is_new = self.firsts.add(name, self.list.len())?;
+        self.list.push_reserved(name);
         Ok(is_new)
     }
 
@@ -77,7 +73,7 @@ impl<'n> Names<'n> {
     pub fn find(&self, name: &[u8]) -> Option<usize>
         ensures { result ≡ place_in self.now name.now }
     {
-        self.chains.find(self.list.as_slice(), name)
+        self.firsts.find(name)
     }
 
     /// Whether one of these names is this.

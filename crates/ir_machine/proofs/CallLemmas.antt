@@ -32,15 +32,6 @@ jump_goes setting machine block frame left is =
     ap (λ (f : Frame). goes_on (record machine { state = record machine.state { running = f; steps = machine.state.steps + 1 } })) is
     ∙ ap (lifted machine) (step_left setting machine.state (jumped setting block) left)
 
-pub steps_out : (setting : Setting) (machine : Machine) (next : State → Effect State) → setting.bound ≤ machine.state.steps
-    → ends OutOfSteps machine ≡ lifted machine (stepped setting machine.state next)
-steps_out setting machine next over = ap (lifted machine) (out_of_steps setting machine.state next over)
-
-pub stop_goes : (setting : Setting) (machine : Machine) → machine.state.steps < setting.bound
-    → ends (Trap Unreachable) (record machine { state = record machine.state { steps = machine.state.steps + 1 } })
-    ≡ lifted machine (stepped setting machine.state (ends (Trap Unreachable)))
-stop_goes setting machine left = ap (lifted machine) (step_left setting machine.state (ends (Trap Unreachable)) left)
-
 -- ---- calls
 
 pub enter_goes : (machinery : Machinery) (machine : Machine) (line : Line) (rest : List Line) (func : ℕ) (operands : List Operand) (arguments : List Datum) (frame : Frame) (below : List Frame) (address : ℕ) (stack : List ℕ)
@@ -74,35 +65,6 @@ enter_deep machinery machine line rest func operands left many =
     let full = le-ltb (length state.below + 1) 4096 many in
     let stops : ends (Trap Depth) (record state { steps = state.steps + 1 }) ≡ entering setting func all (record state { steps = state.steps + 1 }) = rw full refl in
     ap (λ (effect : Effect State). then_on (pushed machinery func (address_behind machinery state.running line rest)) (lifted machine effect)) (stops ∙ step_left setting state (entering setting func all) left)
-
-pub print_goes : (machinery : Machinery) (machine : Machine) (line : Line) (rest : List Line) (operands : List Operand) (word : ℕ) (frame : Frame)
-    → operand machine.state.running.registers operands 0 ≡ number word → frame ≡ gone_from machine.stack machine.state.running machine.state.running.rest nothing
-    → prints word (record machine { state = record machine.state { running = frame } }) ≡ calls machinery machine line rest Print operands
-print_goes machinery machine line rest operands word frame is frame_is =
-    ap (λ (f : Frame). prints word (record machine { state = record machine.state { running = f } })) frame_is
-    ∙ ap (λ (d : Datum). prints (number_in d) (gone_on nothing machine)) (sym is)
-
-pub read_ends : (machinery : Machinery) (machine : Machine) (line : Line) (rest : List Line) (operands : List Operand) → slice_get machine.state.input 0 ≡ None
-    → ends (Trap Input) machine ≡ calls machinery machine line rest Read operands
-read_ends machinery machine line rest operands none = by machine.state.input none
-  where
-    by : (input : List ℤ) → slice_get input 0 ≡ None → ends (Trap Input) machine ≡ lifted machine (taking machine.state (λ answer. (gone_on answer machine).state) input)
-    by [] e = refl
-    by (one ∷ input) e = cc
-
-pub read_goes : (machinery : Machinery) (machine : Machine) (line : Line) (rest : List Line) (operands : List Operand) (first : ℤ) (word : ℕ) (input : List ℤ)
-    → slice_get machine.state.input 0 ≡ Some first → word ≡ cast_unsigned w64 first → input ≡ drop 1 machine.state.input
-    → goes_on (gone_on (number word) (record machine { state = record machine.state { input = input } })) ≡ calls machinery machine line rest Read operands
-read_goes machinery machine line rest operands first word input found is rest_is = by machine.state.input found rest_is
-  where
-    by : (all : List ℤ) → slice_get all 0 ≡ Some first → input ≡ drop 1 all
-        → goes_on (gone_on (number word) (record machine { state = record machine.state { input = input } }))
-        ≡ lifted machine (taking machine.state (λ answer. (gone_on answer machine).state) all)
-    by [] e left = cc
-    by (one ∷ numbers) e left =
-        let same : one ≡ first = cc in
-        let spelled : word ≡ cast_unsigned w64 one = is ∙ ap (cast_unsigned w64) (sym same) in
-        rw (left, spelled) refl
 
 pub start_full : (machinery : Machinery) (machine : Machine) (func : ℕ) (argument : Datum) → 64 ≤ length machine.state.tasks
     → ends (Trap Tasks) machine ≡ started_machine machinery machine func argument

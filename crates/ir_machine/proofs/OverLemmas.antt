@@ -19,7 +19,7 @@ use Rattle.run_texts.specs.RunTexts.{event_lines, trace_lines}
 use Rattle.run_traces.specs.declared.happenings.Happening.{Happening}
 use Rattle.ir_machine.specs.Executors.{told}
 use Rattle.ir_machine.specs.Answers.{Follows}
-use Rattle.ir_machine.specs.declared.executor.Did.TheVariants.{GoesOn}
+use Rattle.run_tasks.specs.declared.printing.Did.TheVariants.{GoesOn}
 use Rattle.ir_machine.specs.declared.run.Shows.{Shows}
 use Rattle.ir_machine.proofs.RunLemmas.{follows_more}
 

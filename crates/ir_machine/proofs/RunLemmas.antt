@@ -38,12 +38,13 @@ use Rattle.run_texts.proofs.TextLaws.{bare_texts, traced_front, traced_last, wri
 use Rattle.run_tasks.specs.declared.runs.Ran.{Ran}
 use Rattle.run_tasks.proofs.RunLemmas.{ran_is}
 use Rattle.run_traces.specs.declared.happenings.Happening.{Happening}
-use Rattle.ir_machine.specs.declared.executor.Did.{Did}
-use Rattle.ir_machine.specs.declared.executor.Did.TheVariants.{GoesOn, Prints, Ends as Finishes}
+use Rattle.run_tasks.specs.declared.printing.Did.{Did}
+use Rattle.run_tasks.specs.declared.printing.Did.TheVariants.{GoesOn, Prints, Ends as Finishes}
 use Rattle.ir_machine.specs.declared.run.Shows.{Shows}
-use Rattle.ir_machine.specs.Executors.{effect_of, told, told_of, without_words}
+use Rattle.ir_machine.specs.Executors.{told, told_of, without_words}
 use Rattle.ir_machine.specs.Traces.{StepForeseen, did_lose, is_lost, shown_lines}
-use Rattle.ir_machine.specs.Answers.{BeginsText, Follows, IsRunFrom, IsRunOver, IsRunUnseen, PutsFrontOver, PutsRunOver, WritesFrontFrom, WritesFrontOver, counted_by, ended_of, lines_of_step, lines_over, lines_of_run, printed_of, unprinted}
+use Rattle.ir_machine.specs.Answers.{BeginsText, Follows, IsRunFrom, IsRunOver, IsRunUnseen, PutsFrontOver, PutsRunOver, WritesFrontFrom, WritesFrontOver, counted_by, lines_of_step, lines_over, lines_of_run, printed_of, unprinted}
+use Rattle.run_tasks.specs.Dids.{effect_of, ended_of}
 
 pub follows_start : (machinery : Machinery) (trace : Bool) (machine : Machine) (old : SinkTold) → AreSettled machine.heap.stands → Follows machinery trace (unprinted machine) machine 0 old old
 follows_start machinery trace machine old settled = record {

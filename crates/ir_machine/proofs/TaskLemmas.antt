@@ -285,30 +285,3 @@ module _ (machinery : Machinery) (moves : List Moved) (initial tasks : List (Opt
     address = address;
     is = walks_here ∙ ap (λ (w : Result (List ℕ) ℕ). before_walk (take place (map kept tasks)) (joined w (walk_of machinery moves (drop (suc place) initial)))) lost;
   }
-
-pub walks_start : (machinery : Machinery) (moves : List Moved) (tasks : List (Option Task)) → WalkedTo machinery moves tasks tasks 0
-walks_start machinery moves tasks = record { frames = refl; rest = refl; walks = by (walk_of machinery moves tasks) }
-  where
-    by : (walk : Result (List (List ℕ)) ℕ) → walk ≡ before_walk [] walk
-    by (Ok rest) = refl
-    by (Err lost) = refl
-
-pub walks_end : (machinery : Machinery) (moves : List Moved) (initial tasks : List (Option Task)) (place : ℕ) → length tasks ≤ place → WalkedTo machinery moves initial tasks place
-    → walk_of machinery moves initial ≡ Ok (map kept tasks)
-walks_end machinery moves initial tasks place past so_far =
-    let count : length (map kept tasks) ≤ place = omega (arith, length-map tasks kept) in
-    so_far.walks
-    ∙ ap (λ (ts : List (Option Task)). before_walk (take place (map kept tasks)) (walk_of machinery moves ts)) (sym so_far.rest ∙ drop_all tasks place past)
-    ∙ ap Ok (append-nil (take place (map kept tasks)) ∙ take_all (map kept tasks) place count)
-  where
-    drop_all : {X : Type 0} (xs : List X) (i : ℕ) → length xs ≤ i → drop i xs ≡ []
-    drop_all [] zero past = refl
-    drop_all [] (suc i) past = refl
-    drop_all (x ∷ xs) zero past = absurd (omega arith)
-    drop_all (x ∷ xs) (suc i) past = drop_all xs i (omega arith)
-
-    take_all : {X : Type 0} (xs : List X) (i : ℕ) → length xs ≤ i → take i xs ≡ xs
-    take_all [] zero past = refl
-    take_all [] (suc i) past = refl
-    take_all (x ∷ xs) zero past = absurd (omega arith)
-    take_all (x ∷ xs) (suc i) past = ap (λ rest. x ∷ rest) (take_all xs i (omega arith))

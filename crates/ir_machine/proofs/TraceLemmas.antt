@@ -131,21 +131,6 @@ module _ (machinery : Machinery) (machine : Machine) (poll : Bool) (one : Happen
       by true = ap (λ (h : Happened). event_lines (with_event machine.state).events (record h { slots = [] })) (sym is.happened_so)
       by false = ap (event_lines (with_event machine.state).events) (sym is.happened_so)
 
-pub poll_foreseen : (machinery : Machinery) (machine : Machine) (one : Happening) → IsForeseen machinery machine true one → CallForeseen machinery machine callees.Poll true one
-poll_foreseen machinery machine one is line rest operands =
-    append-nil (event_lines (with_event machine.state).events (happening machinery machine at_poll))
-    ∙ shown_so machinery machine true one is (is_lost (calls machinery machine line rest callees.Poll operands))
-    (slots_unless machinery (moves_due machinery machine.heap (with_event machine.state).events) machine (λ now. goes_on (polled_machine machinery now)) (λ now. refl))
-
-pub new_foreseen : (machinery : Machinery) (machine : Machine) (layout : ℕ) (one : Happening) → IsForeseen machinery machine false one → CallForeseen machinery machine (callees.New layout) true one
-new_foreseen machinery machine layout one is line rest operands =
-    append-nil (event_lines (with_event machine.state).events (happening machinery machine at_new))
-    ∙ shown_so machinery machine false one is (is_lost (calls machinery machine line rest (callees.New layout) operands))
-    (slots_unless machinery (moves_due machinery machine.heap (with_event machine.state).events) machine
-    (λ now. allocating_machine now layout (fields_in machinery.setting.layouts layout) (signed 64 (number_in (operand now.state.running.registers operands 0))))
-    (λ now. allocating_keeps now layout (fields_in machinery.setting.layouts layout) (unsigned_abs (signed 64 (number_in (operand now.state.running.registers operands 0))))
-    (alloc_answer now.heap (fields_in machinery.setting.layouts layout) (signed 64 (number_in (operand now.state.running.registers operands 0))))))
-
 -- ---- what a statepoint keeps
 
 over_twice : (words stack : List ℕ) → over words (over words stack) ≡ over words stack

@@ -5,13 +5,14 @@ use Rattle.piece_writer.proofs.LineLaws.{puts_none}
 use Rattle.ir_ast.specs.Modules.{ModuleContent}
 use Rattle.machine_meaning.specs.Machines.{Machine, Machinery}
 use Rattle.machine_meaning.specs.MachineSteps.{machine_step}
-use Rattle.ir_machine.specs.declared.executor.Did.{Did}
-use Rattle.ir_machine.specs.declared.executor.Did.TheVariants.{GoesOn, Prints, Ends as Finishes}
+use Rattle.run_tasks.specs.declared.printing.Did.{Did}
+use Rattle.run_tasks.specs.declared.printing.Did.TheVariants.{GoesOn, Prints, Ends as Finishes}
 use Rattle.machine_lines.specs.Going.{GoesOver}
-use Rattle.ir_machine.specs.Executors.{effect_of, told}
+use Rattle.ir_machine.specs.Executors.{told}
 use Rattle.ir_machine.specs.Answers.{LeadsOn, WentFar, is_shown}
 use Rattle.ir_machine.proofs.OverLemmas.{follows_over}
 use Rattle.ir_machine.proofs.RunLemmas.{follows_more}
+use Rattle.run_tasks.specs.Dids.{effect_of}
 
 pub leads_same : (machinery : Machinery) (trace : Bool) (machine : Machine) → LeadsOn machinery trace machine machine
 leads_same machinery trace machine = λ start one count first now follows. follows

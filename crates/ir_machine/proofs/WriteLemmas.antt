@@ -5,8 +5,8 @@ use Rattle.sp_ids.specs.declared.ends.End.TheVariants.{Trap}
 use Rattle.sp_ids.specs.declared.ends.Trap.{Trap as TrapKind}
 use Rattle.machine_meaning.specs.Machines.{Machine, Machinery}
 use Rattle.machine_meaning.specs.TrapLines.{closing_of}
-use Rattle.ir_machine.specs.declared.executor.Did.{Did}
-use Rattle.ir_machine.specs.declared.executor.Did.TheVariants.{Prints}
+use Rattle.run_tasks.specs.declared.printing.Did.{Did}
+use Rattle.run_tasks.specs.declared.printing.Did.TheVariants.{Prints}
 use Rattle.ir_machine.specs.Answers.{printed_of}
 
 pub prints_nothing : (did : Did) → ((word : ℕ) → did ≡ Prints word → ⊥) → [] ≡ printed_of did

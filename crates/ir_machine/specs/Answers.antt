@@ -26,16 +26,17 @@ use Rattle.run_texts.specs.RunTexts.{RunWrites, lines_from, lines_to_end, run_li
 use Rattle.run_tasks.specs.declared.runs.Ran.{Ran}
 use Rattle.run_tasks.specs.Runs.{ran_of}
 use Rattle.run_traces.specs.declared.happenings.Happening.{Happening}
-use Rattle.ir_machine.specs.Executors.{effect_of, told}
+use Rattle.ir_machine.specs.Executors.{told}
 use Rattle.ir_machine.specs.Traces.{StepForeseen, did_lose, shown_lines}
 use Rattle.ir_machine.specs.declared.run.Shows.{Shows}
 use Rattle.ir_machine.specs.declared.run.SureFault.{SureFault}
 use Rattle.ir_machine.specs.declared.run.SureFault.TheVariants as faults
 use Rattle.run_traces.specs.declared.writing.Stopped.{Stopped}
 use Rattle.run_traces.specs.declared.writing.Stopped.TheVariants as stops
-use Rattle.ir_machine.specs.declared.executor.Did.{Did}
-use Rattle.ir_machine.specs.declared.executor.Did.TheVariants.{GoesOn, Prints, Ends as Finishes}
+use Rattle.run_tasks.specs.declared.printing.Did.{Did}
+use Rattle.run_tasks.specs.declared.printing.Did.TheVariants.{GoesOn, Prints}
 use Rattle.ir_machine.specs.declared.turns.Turn.{Turn}
+use Rattle.run_tasks.specs.Dids.{effect_of}
 
 -- the answer is that of the machine's run over a map, and its text was written, with places and trace or without
 pub record IsRunOver (content : ModuleContent) (map : StackMap) (input : List ℤ) (plan : List PlanLine) (bound : ℕ) (shows : Shows) (ran : Ran) (old new : Option (List ℕ)) : Type 0 where
@@ -186,11 +187,6 @@ WentFar machinery old turn new = (one : Happening) → Turned machinery false ol
 abbrev pub is_shown : Did → Bool
 is_shown GoesOn = false
 is_shown did = true
-
--- the end of the run, where the step was its last
-abbrev pub ended_of : Did → Option End
-ended_of (Finishes end) = Some end
-ended_of _ = None
 
 abbrev pub printed_of : Did → List (List ℕ)
 printed_of (Prints word) = printed_line word ∷ []

@@ -14,8 +14,9 @@ use Rattle.machine_frames.specs.declared.frames.Frame.{Frame as Standing}
 use Rattle.machine_frames.specs.declared.tasks.Task.{Task}
 use Rattle.machine_frames.specs.Frames.{below_of, frame_of, frames_of}
 use Rattle.machine_lines.specs.Going.{still}
-use Rattle.ir_machine.specs.declared.executor.Did.{Did}
-use Rattle.ir_machine.specs.Executors.{effect_of, told, waiting, kept}
+use Rattle.run_tasks.specs.declared.printing.Did.{Did}
+use Rattle.ir_machine.specs.Executors.{told, waiting, kept}
+use Rattle.run_tasks.specs.Dids.{effect_of}
 
 -- what an effect is that first moves, and then does this
 abbrev pub or_lost : Bool → Machine → (Machine → Effect Machine) → Effect Machine

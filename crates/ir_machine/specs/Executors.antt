@@ -19,8 +19,8 @@ use Rattle.machine_lines.specs.Lines.{line_of, lines_left}
 use Rattle.machine_lines.specs.Going.{still}
 use Rattle.ir_machine.specs.declared.executor.Executor.{Executor}
 use Rattle.ir_machine.specs.declared.executor.Program.{Program}
-use Rattle.ir_machine.specs.declared.executor.Did.{Did}
-use Rattle.ir_machine.specs.declared.executor.Did.TheVariants.{GoesOn, Prints, Ends}
+use Rattle.run_tasks.specs.declared.printing.Did.{Did}
+use Rattle.run_tasks.specs.Dids.{effect_of}
 
 -- the machinery of a module, a map and a plan
 abbrev pub machinery : Program → Machinery
@@ -51,11 +51,6 @@ seen executor = record {
   stacks = map kept executor.tasks.items;
   heap = still executor.heap;
 }
-
-abbrev pub effect_of : Did → Machine → Effect Machine
-effect_of GoesOn machine = goes_on machine
-effect_of (Prints word) machine = prints word machine
-effect_of (Ends end) machine = ends end machine
 
 -- where a frame was lost stacks are no matter: some are walked, and others not
 abbrev pub without_words : Machine → Machine

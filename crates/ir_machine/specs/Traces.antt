@@ -16,8 +16,8 @@ use Rattle.machine_meaning.specs.MachineSteps.{calls, machine_step}
 use Rattle.run_texts.specs.RunTexts.{event_lines, trace_lines}
 use Rattle.run_traces.specs.declared.happenings.Happening.{Happening}
 use Rattle.run_traces.specs.Happenings.{happened, happened_lines, kind_of}
-use Rattle.ir_machine.specs.declared.executor.Did.{Did}
-use Rattle.ir_machine.specs.declared.executor.Did.TheVariants.{Ends as Finishes}
+use Rattle.run_tasks.specs.declared.printing.Did.{Did}
+use Rattle.run_tasks.specs.declared.printing.Did.TheVariants.{Ends as Finishes}
 
 -- whether a step loses a frame
 abbrev pub is_lost : Effect Machine → Bool

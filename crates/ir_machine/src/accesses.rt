@@ -9,14 +9,16 @@ ghost use Rattle.object_meaning.specs.Numbers.{width_of};
 ghost use Rattle.machine_meaning.specs.Machines.{Machine};
 ghost use Rattle.machine_meaning.specs.MachineSteps.{denied, stepped_word};
 ghost use Rattle.machine_lines.specs.Decoding.{decoded_of};
-ghost use Rattle.ir_machine.specs.Executors.{machinery, effect_of, DoesSo, acts_at, calls_at};
+ghost use Rattle.ir_machine.specs.Executors.{machinery, DoesSo, acts_at, calls_at};
 ghost use Rattle.ir_ast.specs.Ops.{is_statepoint};
+ghost use Rattle.run_tasks.specs.Dids.{effect_of};
 
-use crate::executor::{Did, Executor, Program};
+use crate::executor::{Executor, Program};
 use flat_code::width_of;
 use ir_ast::{Callee, Cell, Elem, Inst, Layout, Op, Operand, Ty};
 use machine_lines::{Decoded, Lines, cell_named, stepped_word};
 use moving_heap::Deny;
+use run_tasks::Did;
 use sp_ids::{End, Memory, Trap, sign};
 
 impl<'m, 'i> Executor<'m, 'i> {

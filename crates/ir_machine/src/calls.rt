@@ -1,6 +1,6 @@
 //! Calls and returns.
 
-ghost use Rattle.std.specs.Prelude.{◌≡◌, ◌∷◌, ◌≤◌, None, [], drop, false, map, IfOk, slice_get, slice_set, unwrap_or};
+ghost use Rattle.std.specs.Prelude.{◌≡◌, ◌∷◌, ◌≤◌, None, [], false, map, IfOk, slice_get, slice_set, unwrap_or};
 ghost use Rattle.ir_ast.specs.Objects.{number};
 ghost use Rattle.object_meaning.specs.Calls.{function_in};
 ghost use Rattle.object_meaning.specs.Effects.{goes_on};
@@ -12,11 +12,12 @@ ghost use Rattle.machine_lines.specs.Decoding.{decoded_of};
 ghost use Rattle.ir_machine.specs.Executors.{machinery, seen, DoesSo, acts_at, calls_at};
 ghost use Rattle.ir_ast.specs.Ops.{is_statepoint};
 
-use crate::executor::{Did, Executor, Program};
+use crate::executor::{Executor, Program};
 use flat_code::width_of;
 use ir_ast::{Callee, Inst, Op, Operand};
 use machine_frames::Task;
 use machine_lines::{Decoded, Lines, word_at};
+use run_tasks::{Did, first_of, rest_of};
 use sp_ids::limits::{FRAMES, TASKS};
 use sp_ids::{End, Memory, Trap, sign};
 use std::mem;
@@ -244,20 +245,5 @@ fn function_in(operands: &[Operand]) -> u32
     match operands.first() {
         Some(Operand::Fun(func)) => func.0,
         _ => 0,
-    }
-}
-
-fn first_of(input: &[i64]) -> Option<i64>
-    ensures { result ≡ slice_get input.now 0 }
-{
-    input.first().copied()
-}
-
-fn rest_of(input: &[i64]) -> &[i64]
-    ensures { result.now ≡ drop 1 input.now }
-{
-    match input {
-        [] => &[],
-        [_first, rest @ ..] => rest,
     }
 }

@@ -9,17 +9,19 @@ ghost use Rattle.machine_meaning.specs.Machines.{Machine};
 ghost use Rattle.machine_meaning.specs.MachineTasks.{polled_machine};
 ghost use Rattle.machine_meaning.specs.Moving.{moved_by, moves_due};
 ghost use Rattle.machine_frames.specs.Frames.{CanGoOn};
-ghost use Rattle.ir_machine.specs.Executors.{machinery, effect_of, seen, told, DoesSo, calls_at};
+ghost use Rattle.ir_machine.specs.Executors.{machinery, seen, told, DoesSo, calls_at};
 ghost use Rattle.ir_machine.specs.Events.{TaskWalked, SlotWalked, AllWalked, KeepsPlace, MakesObject, MovesSo, gone_to, next_frame, unwalked};
+ghost use Rattle.run_tasks.specs.Dids.{effect_of};
 
 use crate::calls::{set_task, take_task};
-use crate::executor::{Did, Executor, Program};
+use crate::executor::{Executor, Program};
 use frame_walk::walk;
 use ir_ast::{Callee, Cell, Inst, Operand};
 use machine_frames::Task;
 use machine_lines::fields_of;
 use move_plan::{Move, Plan};
 use moving_heap::{Moves, Places, Refused};
+use run_tasks::Did;
 use sp_ids::{End, Memory, Trap, sign};
 use std::mem;
 

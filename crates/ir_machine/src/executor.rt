@@ -4,7 +4,6 @@ use heap_hints::Hints;
 use machine_frames::{Code, Move, Task};
 use move_plan::Plan;
 use moving_heap::Heap;
-use sp_ids::End;
 use stackmap_view::MapIndex;
 use std::alloc::Global;
 
@@ -15,15 +14,6 @@ pub struct Program<'m, 'r> {
     pub map: MapIndex<'r>,
     pub plan: &'r Plan,
     pub bound: u64,
-}
-
-/// What a step did.
-#[derive(Clone, Copy, Debug, PartialEq, Eq)]
-pub enum Did {
-    GoesOn,
-    /// It printed this number.
-    Prints(u64),
-    Ends(End),
 }
 
 /// A run: the frames of its task, room for the moves of phis, the number of the task and the frames of the others by number, the

@@ -16,11 +16,12 @@ ghost use Rattle.machine_lines.specs.Lines.{line_of, lines_left};
 ghost use Rattle.ir_ast.specs.declared.ops.Operand.{Operand};
 ghost use Rattle.ir_machine.specs.Executors.{machinery, seen, DoesSo, GoesOnTo, acts_at, calls_at, calls_kept, skipped_at};
 
-use crate::executor::{Did, Executor, Program};
+use crate::executor::{Executor, Program};
 use ir_ast::{Callee, Inst, Op, Operand};
 use machine_lines::{
     Decoded, Lines, branch_taken, case_taken, computed, go_over, is_plain, label_at, word_at,
 };
+use run_tasks::Did;
 use sp_ids::limits::FRAMES;
 use sp_ids::{End, Memory, Trap};
 

@@ -1,8 +1,7 @@
 //! Runs of the machine.
 
-ghost use Rattle.std.specs.Prelude.{◌≡◌, ◌≤◌, ◌<◌, length, codes, IfOk, IfSome, OnOk, OnErr, IsErrOf};
-ghost use Rattle.std.specs.List.{All, concat, position};
-ghost use Rattle.std.specs.Str.{bytes_eq};
+ghost use Rattle.std.specs.Prelude.{◌≡◌, ◌≤◌, IfOk, OnOk, OnErr, IsErrOf};
+ghost use Rattle.std.specs.List.{All, concat};
 ghost use Rattle.tool_io.specs.Counts.{Rose};
 ghost use Rattle.tool_io.specs.Sink.{append_known, AppendsFront};
 ghost use Rattle.piece_writer.specs.LinePuts.{IsShort, PutsFirst, PutsLines, told_by};
@@ -11,34 +10,31 @@ ghost use Rattle.map_bytes.specs.Faults.{IsFirstFault};
 ghost use Rattle.moving_heap.specs.Settled.{AreSettled};
 ghost use Rattle.stackmap_view.specs.Maps.{stack_map};
 ghost use Rattle.stackmap_write.specs.ModuleMaps.{map_of};
-ghost use Rattle.object_meaning.specs.Lines.{main_of};
-ghost use Rattle.object_meaning.specs.Effects.{printed_line};
 ghost use Rattle.object_meaning.specs.Texts.{function_name};
 ghost use Rattle.machine_meaning.specs.MachineRuns.{machine_opening};
 ghost use Rattle.machine_meaning.specs.TrapLines.{closing_of};
 ghost use Rattle.run_texts.specs.RunTexts.{end_lines, last_lines};
 ghost use Rattle.ir_machine.specs.Executors.{machinery, seen};
 ghost use Rattle.ir_machine.specs.Traces.{did_lose, shown_lines};
-ghost use Rattle.ir_machine.specs.Answers.{IsRun, IsRunFrom, IsRunOver, IsRunUnseen, PutsFront, PutsFrontOver, PutsRun, PutsRunOver, WritesFront, WritesFrontFrom, WritesFrontOver, counted_by, ended_of, frames_shown, lines_of_step, unprinted};
+ghost use Rattle.ir_machine.specs.Answers.{IsRun, IsRunFrom, IsRunOver, IsRunUnseen, PutsFront, PutsFrontOver, PutsRun, PutsRunOver, WritesFront, WritesFrontFrom, WritesFrontOver, counted_by, frames_shown, lines_of_step, unprinted};
+ghost use Rattle.run_tasks.specs.Dids.{ended_of};
 
-use crate::executor::{Did, Executor, Program};
-use arrayvec::ArrayVec;
+use crate::executor::{Executor, Program};
 use heap_hints::Hints;
-use ir_ast::{Func, Module};
-use itoa::Buffer;
+use ir_ast::Module;
 use machine_frames::{Code, Task};
 use map_bytes::MapFault;
 use move_plan::Plan;
 use moving_heap::Heap;
-use run_tasks::Ran;
+use run_tasks::{Did, Ran, ended, main_of, printed_line};
 use run_traces::{Happening, Stopped, write_happening, write_places};
-use sp_ids::{End, FuncId, Memory, sign};
+use sp_ids::{End, FuncId, Memory};
 use stackmap_view::{MapIndex, MapView};
 use statepoint_verify::Verified;
 use std::alloc::Global;
 use tool_io::{Failed, Sink};
 use tool_report::closing;
-use trap_frames::{Standing, write_waiting};
+use trap_frames::write_waiting;
 
 /// What is shown of a run besides what it prints and the line that closes it: where its objects stand in the end, and what its events
 /// are and move.
@@ -204,7 +200,7 @@ fn opened<'m, 'i>(
 ) -> Result<Executor<'m, 'i>, Memory>
     ensures { IfOk result (λ executor. unprinted (seen executor) ≡ machine_opening (machinery program.now) input.now) }
 {
-    let run = Task::begin(alloc, &program.code, main_of(&program.code), &[])?;
+    let run = Task::begin(alloc, &program.code, main_of(program.code.module()), &[])?;
     Ok(Executor {
         run,
         moves: Vec::new(alloc),
@@ -217,29 +213,6 @@ fn opened<'m, 'i>(
         steps: 0,
         events: 0,
     })
-}
-
-// The number of `@main`.
-fn main_of(code: &Code) -> u32
-    ensures { result ≡ main_of code.now }
-{
-    match main_among(code.module().funcs()) {
-        None => 0,
-        Some(place) => place as u32,
-    }
-}
-
-fn main_among(funcs: &[Func]) -> Option<usize>
-    ensures value { result ≡ position (λ func. bytes_eq func.content.name (codes "main")) funcs.now }
-    ensures within { IfSome result (λ place. place < length funcs.now) }
-{
-    funcs.iter().position(|func| is_main(func))
-}
-
-fn is_main(func: &Func) -> bool
-    ensures { result ≡ bytes_eq func.now.content.name (codes "main") }
-{
-    func.name().bytes() == b"main".as_slice()
 }
 
 // Runs to the end.
@@ -267,16 +240,6 @@ fn run<'m, O: Sink>(
         lines = counted(turn.did, lines);
     }
     Err(SureFault::Memory)
-}
-
-// The end of the run, where the step was its last.
-fn ended(did: Did) -> Option<End>
-    ensures { result ≡ ended_of did }
-{
-    match did {
-        Did::Ends(end) => Some(end),
-        _ => None,
-    }
 }
 
 // The count of printed lines after a step.
@@ -389,13 +352,12 @@ fn write_frames<O: Sink>(
     ensures count { O.faults out.old ≤ O.faults out.new }
 {
     let own = program.code.frame_words(executor.run.frame.func)?;
-    let objects = Standing::of(&executor.heap);
     write_waiting(
         executor.alloc,
         &program.map,
         &executor.run.stack,
         own,
-        &objects,
+        &executor.heap,
         program.code.module(),
         out,
     )?;
@@ -446,16 +408,4 @@ fn how_ran(end: End, executor: &Executor, lines: u64) -> Ran
         events: executor.events,
         lines,
     }
-}
-
-// The signed decimal of an `i64`, and a newline.
-#[tactic(auto, unfolding(object_meaning::specs::Effects::printed_line))]
-fn printed_line(word: u64) -> ArrayVec<u8, 64>
-    ensures { result.items ≡ printed_line word }
-{
-    let mut buffer = Buffer::new();
-    let mut line = ArrayVec::new();
-    let _ = line.try_extend_from_slice(buffer.format(sign(64, word)).as_bytes());
-    let _ = line.try_extend_from_slice(b"\n");
-    line
 }

@@ -5,7 +5,8 @@ ghost use Rattle.moving_heap.specs.Settled.{IsNumbered};
 ghost use Rattle.ir_machine.specs.Executors.{machinery, seen};
 ghost use Rattle.ir_machine.specs.Answers.{LeadsOn, Turned, WentFar, is_shown};
 
-use crate::executor::{Did, Executor, Program};
+use crate::executor::{Executor, Program};
+use run_tasks::Did;
 use run_traces::Happening;
 use sp_ids::Memory;
 

@@ -11,7 +11,6 @@ use Rattle.ir_ast.specs.declared.ops.Op.{Op}
 use Rattle.ir_ast.specs.Funcs.{Function as IrFunction}
 use Rattle.ir_ast.specs.Objects.{Datum}
 use Rattle.move_plan.specs.declared.plan_lines.PlanLine.{PlanLine}
-use Rattle.made_objects.specs.Makings.{sizes_in}
 use Rattle.object_meaning.specs.Calls.{called}
 use Rattle.object_meaning.specs.Effects.{Effect, goes_on, prints, ends}
 use Rattle.object_meaning.specs.Frames.{passed, answered_by, answered_at, resumed}
@@ -21,6 +20,7 @@ use Rattle.object_meaning.specs.States.{Frame, State, Setting}
 use Rattle.object_meaning.specs.Steps.{step, acts}
 use Rattle.object_meaning.specs.Tasks.{handed_over, switched, switched_to}
 use Rattle.object_meaning.proofs.StepLaws.{step_is}
+use Rattle.object_meaning.specs.Outcomes.{sizes_in}
 use Rattle.object_store.specs.declared.words.Word.{Word}
 use Rattle.object_store.specs.Words.{datum}
 use Rattle.flat_code.specs.declared.lines.Exit.{Exit}

@@ -1,12 +1,13 @@
 -- What a run has printed on the way stands first among the lines that it prints in the end.
-use Rattle.std.proofs.Common.{◌≡◌, ℕ, zero, suc, List, [], ◌∷◌, ◌++◌, sym, ap, ◌∙◌, append_assoc}
+use Rattle.std.proofs.Common.{◌≡◌, ℕ, zero, suc, List, [], ◌∷◌, ◌++◌, sym, ◌∙◌, append_assoc}
 use Rattle.sp_ids.specs.declared.ends.End.{End}
 use Rattle.object_meaning.specs.Effects.{Effect, goes_on, prints, ends, Progress, after, printed_line}
 use Rattle.object_meaning.specs.Outcomes.{proceeds}
 use Rattle.object_meaning.specs.Runs.{Go, End as Over, goes, Ends, Reaches}
 use Rattle.object_meaning.specs.States.{State, Setting}
 use Rattle.object_meaning.specs.Steps.{step}
-use Rattle.object_meaning.proofs.RunLaws.{ends_at, goes_over, not_over, same_over}
+use Rattle.object_meaning.proofs.RunLaws.{ends_at, goes_over, not_over}
+use Rattle.object_meaning.proofs.OutcomeLaws.{same_lines}
 
 -- the newest line stands first
 pub record PrintsAfter (now last : List (List ℕ)) : Type 0 where
@@ -15,10 +16,6 @@ pub record PrintsAfter (now last : List (List ℕ)) : Type 0 where
 
 after_line : (lines : List (List ℕ)) (line : List ℕ) (last : List (List ℕ)) → PrintsAfter (line ∷ lines) last → PrintsAfter lines last
 after_line lines line last printed = record { more = printed.more ++ line ∷ []; is = printed.is ∙ sym (append_assoc printed.more (line ∷ []) lines) }
-
-same_lines : (end other : End) (state : State) (lines : List (List ℕ)) (last : Progress State)
-    → Over end (record { state = state; lines = lines }) ≡ Over other last → last.lines ≡ lines
-same_lines end other state lines last is = sym (ap (λ (p : Progress State). p.lines) (same_over end other (record { state = state; lines = lines }) last is).last)
 
 prints_after : (setting : Setting) (count : ℕ) (lines : List (List ℕ)) (effect : Effect State) (end : End) (last : Progress State)
     → goes (proceeds setting) count (after lines effect) ≡ Over end last → PrintsAfter lines last.lines

@@ -13,6 +13,7 @@ use Rattle.object_meaning.specs.Frames.{resumed}
 use Rattle.object_meaning.specs.Lines.{Line}
 use Rattle.object_meaning.specs.Steps.{step}
 use Rattle.object_meaning.proofs.StepLaws.{step_at_end}
+use Rattle.object_meaning.specs.Outcomes.{sizes_in}
 use Rattle.object_store.specs.declared.words.Word.{Word}
 use Rattle.object_store.specs.Words.{datum}
 use Rattle.flat_code.specs.declared.lines.Exit.{Exit}
@@ -28,7 +29,6 @@ use Rattle.ir_meaning.specs.Stacks.{Frames, passed_frame}
 use Rattle.ir_meaning.specs.Machines.{Rest, state_from, exit_from, today, StandsAt, Turned}
 use Rattle.ir_meaning.proofs.MachineLemmas.{turned_ends, resumed_at}
 use Rattle.ir_meaning.proofs.StillLemmas.{lines_still, traps_in}
-use Rattle.made_objects.specs.Makings.{sizes_in}
 
 pub fits_stands : (code : FlatModule) (frames : Frames) (segment : Segment) (exit : Exit) → Fits code frames.running.spot.func frames.running.spot.segment segment
     → segment.exit ≡ Some exit → StandsAt code frames segment exit

@@ -8,12 +8,12 @@ use Rattle.object_meaning.specs.Accesses.{Place, accessed}
 use Rattle.object_meaning.specs.Lines.{Line}
 use Rattle.object_meaning.specs.Registers.{pointer_in, value}
 use Rattle.object_meaning.proofs.ListLemmas.{known}
+use Rattle.object_meaning.specs.Outcomes.{sizes_in}
 use Rattle.flat_code.specs.declared.lines.Action.{Action}
 use Rattle.flat_code.specs.declared.lines.Action.TheVariants.{Load, Store}
 use Rattle.flat_code.specs.declared.lines.FlatLine.{FlatLine}
 use Rattle.flat_code.specs.Actions.{acted}
 use Rattle.flat_code.specs.Flats.{AreInner, Held, acts_on, and_then, computes, flat_line, flat_lines, is_straight, line_done, lines_done, loads, stores}
-use Rattle.made_objects.specs.Makings.{sizes_in}
 use Rattle.made_objects.proofs.StepLaws.{sizes_stored}
 
 module _ (layouts : List ObjectLayout) where

@@ -12,12 +12,12 @@ use Rattle.run_tasks.specs.declared.runs.Ran.{Ran}
 use Rattle.run_tasks.specs.Dids.{effect_of, ended_of}
 use Rattle.run_tasks.proofs.RunLemmas.{ran_is}
 use Rattle.made_objects.specs.declared.makes.Made.{Made}
-use Rattle.made_objects.specs.Makings.{makings, sizes_in, sizes_made}
+use Rattle.made_objects.specs.Makings.{makings, sizes_made}
 use Rattle.made_objects.specs.Packed.{ArePacked}
 use Rattle.made_objects.specs.Runs.{HasMade}
 use Rattle.made_objects.proofs.MakingLaws.{made_all, made_none, made_step, made_still, runs_make_their_objects, step_makes}
 use Rattle.object_meaning.specs.Effects.{Progress, after, ends, line_count, printed_line}
-use Rattle.object_meaning.specs.Outcomes.{events_from, opening, outcome_of, proceeds}
+use Rattle.object_meaning.specs.Outcomes.{events_from, opening, outcome_of, proceeds, sizes_in}
 use Rattle.object_meaning.specs.Runs.{Go, End as Over}
 use Rattle.object_meaning.specs.SourceRuns.{source_setting}
 use Rattle.object_meaning.specs.States.{State, Setting}

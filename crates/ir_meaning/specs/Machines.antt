@@ -18,11 +18,11 @@ use Rattle.object_meaning.specs.Calls.{stepped}
 use Rattle.object_meaning.specs.Jumps.{jumped}
 use Rattle.object_meaning.specs.SourceRuns.{source_setting}
 use Rattle.object_meaning.specs.Steps.{step}
+use Rattle.object_meaning.specs.Outcomes.{sizes_in}
 use Rattle.object_store.specs.Words.{number_word}
 use Rattle.run_tasks.specs.declared.printing.Did.{Did}
 use Rattle.run_tasks.specs.declared.printing.Did.TheVariants.{Ends}
 use Rattle.run_tasks.specs.Dids.{effect_of}
-use Rattle.made_objects.specs.Makings.{sizes_in}
 use Rattle.ir_meaning.specs.declared.machine.Machine.{Machine}
 use Rattle.waiting_frames.specs.Frames.{front_frame, exit_frame}
 use Rattle.ir_meaning.specs.Stacks.{Frames}

@@ -2,10 +2,10 @@
 use Rattle.std.specs.Prelude.{◌≡◌, ℕ, ◌+◌, ◌-◌, ◌^◌, min, nat_lt, if◌then◌else◌, ℤ, List, [], ◌∷◌, Option}
 use Rattle.ir_ast.specs.Modules.{ModuleContent}
 use Rattle.made_objects.specs.declared.makes.Made.{Made}
-use Rattle.made_objects.specs.Makings.{makings, sizes_in}
+use Rattle.made_objects.specs.Makings.{makings}
 use Rattle.made_objects.specs.Runs.{HasMade, MakesAll}
 use Rattle.object_meaning.specs.Effects.{Progress, line_count}
-use Rattle.object_meaning.specs.Outcomes.{Outcome}
+use Rattle.object_meaning.specs.Outcomes.{Outcome, sizes_in}
 use Rattle.object_meaning.specs.SourceRuns.{SourceGives}
 use Rattle.object_meaning.specs.States.{State, Setting}
 use Rattle.run_tasks.specs.declared.printing.Did.{Did}

@@ -8,7 +8,7 @@ use Rattle.ir_reader.specs.declared.states.Counted.{Counted}
 use Rattle.ir_reader.specs.declared.states.Counted.TheVariants as kinds
 use Rattle.ir_ast.specs.declared.modules.Form.{Form as TextForm}
 use Rattle.ir_ast.specs.declared.modules.Form.TheVariants as text_forms
-use Rattle.line_forms.specs.Slots.{Item, layout_name, ty, fields, defined, live}
+use Rattle.line_forms.specs.Slots.{Item, layout_name, ty, fields, defined, deopt, bundles}
 use Rattle.line_forms.specs.Seen.{Said, label, line}
 
 -- ---- what one line says
@@ -21,7 +21,8 @@ abbrev pub item_fits : Item → Bool
 item_fits (layout_name n) = name_fits n
 item_fits (fields fs) = nat_le (length fs) 64
 item_fits (defined n ps) = name_fits n && nat_le (length ps) 64
-item_fits (live vs) = nat_le (length vs) 16384
+item_fits (deopt kept) = nat_le (length kept) 64
+item_fits (bundles kept live) = nat_le (length kept) 64 && nat_le (length live) 16384
 item_fits _ = true
 
 abbrev pub said_fits : Said → Bool

@@ -15,7 +15,8 @@ mod woven;
 pub use faults::ReadFault;
 pub use laws::{fitting_line, judged_text};
 pub use line_forms::{
-    FunctionType, LiveEntries, Reading, StatepointCall, one_form, one_reading, own_form,
+    FunctionType, Kept, KeptEntry, LiveEntries, Reading, StatepointCall, one_form, one_reading,
+    own_form,
 };
 pub use line_parts::{
     AllPassed, Argument, Arguments, Entries, Entry, Fields, Parameters, Passed, TypeWord, Value,

@@ -1,12 +1,12 @@
 //! The limits of the profile that a line, a function or a module may pass.
 
-ghost use Rattle.std.specs.Prelude.{◌≡◌, IsTrue};
+ghost use Rattle.std.specs.Prelude.{◌≡◌, IsTrue, length, nat_le};
 ghost use Rattle.ir_reader.specs.Limits.{name_fits, said_fits, said_counts_as, counts_fit, counted, counted_in};
 ghost use Rattle.line_forms.specs.Seen.{seen};
 
 use crate::states::{Counted, Counts};
 use ir_ast::Form as TextForm;
-use line_forms::Reading;
+use line_forms::{Kept, Reading};
 use sp_ids::limits::{
     ARGUMENTS, FIELDS, FUNCTION_VALUES, FUNCTIONS, LAYOUTS, LIVE_ENTRIES, MODULE_INSTRUCTIONS,
     NAME_BYTES,
@@ -16,6 +16,15 @@ fn name_fits(name: &[u8]) -> bool
     ensures { result ≡ name_fits name.now }
 {
     name.len() <= NAME_BYTES as usize
+}
+
+// The values that a frame keeps at one call.
+const KEPT_ENTRIES: usize = 64;
+
+fn kept_fits(kept: &Kept) -> bool
+    ensures { result ≡ nat_le (length kept.now.items) 64 }
+{
+    kept.as_slice().len() <= KEPT_ENTRIES
 }
 
 /// Whether all that the line says is within the limits.
@@ -32,7 +41,11 @@ pub fn reading_fits(reading: &Reading) -> bool
             arguments,
             ..
         } => { name_fits(name.bytes) && arguments.len() <= ARGUMENTS as usize }
-        Reading::Statepoint { live, .. } => live.len() <= LIVE_ENTRIES as usize,
+        Reading::ValueCall { kept, .. } => kept_fits(kept),
+        Reading::VoidCall { kept, .. } => kept_fits(kept),
+        Reading::Statepoint { call, live, .. } => {
+            kept_fits(&call.kept) && live.len() <= LIVE_ENTRIES as usize
+        }
         _ => true,
     }
 }

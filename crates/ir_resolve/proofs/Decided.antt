@@ -24,7 +24,7 @@ use Rattle.ir_ast.specs.Scope.{Scope}
 use Rattle.ir_ast.specs.Edges.{count_of, edges}
 use Rattle.ir_ast.specs.Faults.TypeClash.{Fits, IsNarrower, IsWider, IsCellType, HasField, asked}
 use Rattle.ir_ast.specs.Faults.PhiEdges.{is_phi, PhiIsRight}
-use Rattle.ir_ast.specs.Faults.GroupShape.{Group, is_statepoint, is_part, number_at, entries_of, ResultInShape, RelocateInShape, ShapeOf}
+use Rattle.ir_ast.specs.Faults.GroupShape.{Group, is_statepoint, is_part, number_at, entries_of, ResultInShape, RelocateInShape, IsApart, holds_live, ShapeOf}
 use Rattle.ir_resolve.specs.ModuleFaults.{RuleBesidesCalls, IsTypedBesidesCalls}
 
 abbrev Decided : Type 0 → Type 0
@@ -159,6 +159,8 @@ rule_decided scope _ inst = inl tt
 pub typed_holds : (scope : Scope) (inst : Instruction) → Likely (IsTypedBesidesCalls scope inst) → IsTypedBesidesCalls scope inst
 typed_holds scope inst likely = record {
   operands = zip_holds scope.values inst.operands (asked inst.op inst.ty (length inst.operands)) (λ lacks. likely (λ typed. lacks typed.operands));
+  bundle = λ k d low. let entry = Rattle.std.proofs.Common.get_or inst.bundle k d in
+      holds (fit_decided scope.values entry.1 entry.0) (λ lacks. likely (λ typed. lacks (typed.bundle k d low)));
   rule = holds (rule_decided scope inst.op inst) (λ lacks. likely (λ typed. lacks typed.rule));
 }
 
@@ -343,10 +345,17 @@ relocate_holds func place inst likely = by inst.operands refl
     by (operands.Value token ∷ operands.Int base ∷ operands.Int derived ∷ []) e = with_operands token base derived e
     by os e = absurd (likely (λ r. let bad : os ≡ operands.Value r.token ∷ operands.Int r.base ∷ operands.Int r.derived ∷ [] = sym e ∙ r.operands in cc))
 
+apart_holds : (func : Function) (inst : Instruction) → Likely (IsApart func inst) → IsApart func inst
+apart_holds func inst likely = (
+  λ k d low is. likely (λ apart. apart.0 k d low is),
+  λ k d low. holds (fit_decided (value_types func) (Rattle.std.proofs.Common.get_or (entries_of inst) k d) tys.Ptr) (λ lacks. likely (λ apart. lacks (apart.1 k d low))),
+)
+
 pub shape_holds : (func : Function) (place : ℕ) (inst : Instruction) (op : Op) → Likely (ShapeOf func place inst op) → ShapeOf func place inst op
 shape_holds func place inst ops.GcResult likely = result_holds func place inst likely
 shape_holds func place inst ops.GcRelocate likely = relocate_holds func place inst likely
-shape_holds func place inst _ likely = (
-  λ k d low is. likely (λ shape. shape.0 k d low is),
-  λ k d low. holds (fit_decided (value_types func) (Rattle.std.proofs.Common.get_or (entries_of inst) k d) tys.Ptr) (λ lacks. likely (λ shape. lacks (shape.1 k d low))),
+shape_holds func place inst (ops.Statepoint id callee types) likely = (
+  apart_holds func inst (λ lacks. likely (λ shape. lacks shape.0)),
+  holds (truth_decided (holds_live inst)) (λ lacks. likely (λ shape. lacks shape.1)),
 )
+shape_holds func place inst _ likely = apart_holds func inst likely

@@ -67,7 +67,11 @@ module _ (text : Resolved) (clean : HasNoFault text.whole.content) where
 
   pub faultless_unbroken : (line code : ℕ) → ¬ HasModuleFault text line code
   faultless_unbroken line code (type_clash f) =
-      f.breaks (record { operands = (typed f.at).operands; rule = besides_calls (scope_of content f.at.func) f.at.inst.op f.at.inst (typed f.at).rule })
+      f.breaks (record {
+        operands = (typed f.at).operands;
+        bundle = (typed f.at).bundle;
+        rule = besides_calls (scope_of content f.at.func) f.at.inst.op f.at.inst (typed f.at).rule;
+      })
   faultless_unbroken line code (case_again f) = no_case line f
   faultless_unbroken line code (entry_has_pred f) =
       all_at (λ (label : Rattle.sp_ids.specs.declared.ids.BlockId.BlockId). label.0 ≡ 0 → ⊥) f.at.inst.labels f.part f.label

@@ -6,7 +6,7 @@ use Rattle.std.specs.Str.{bytes_eq}
 use Rattle.std.proofs.lemmas.List.{length-map}
 use Rattle.std.proofs.lemmas.Option.{same_Some}
 use Rattle.std.proofs.lemmas.Bool.Decides.{Decides-eqb}
-use Rattle.name_chains.proofs.Places.{bytes_eq-self}
+use Rattle.ir_lines.proofs.PlaceLemmas.{bytes_eq-self}
 use Rattle.list_laws.proofs.Places.{get_past, get_middle, take_front_of}
 use Rattle.ir_ast.specs.declared.ops.Operand.{Operand}
 use Rattle.ir_ast.specs.declared.ops.Op.{Op}
@@ -26,7 +26,7 @@ use Rattle.ir_lines.specs.Statements as says
 use Rattle.ir_lines.specs.Parts.{live_use, gives}
 use Rattle.ir_lines.specs.Places.{number_in}
 use Rattle.ir_lines.specs.Sections.{Definition, Naming, values_before, values_of}
-use Rattle.ir_lines.specs.Modules.{Known, known_of, type_of, given_type, passed_operand, used_operand, callee_of, wrapped, binary_of, conversion_of, instruction, instruction_said}
+use Rattle.ir_lines.specs.Modules.{Known, known_of, type_of, given_type, passed_operand, used_operand, callee_of, wrapped, binary_of, conversion_of, instruction, instruction_said, kept_entry, keeping}
 use Rattle.ir_lines.specs.Faults.GroupShape.{Group, is_part}
 use Rattle.ir_lines.specs.TextLines.{place_behind, behind_instruction}
 use Rattle.ir_lines.specs.ReadLines.{is_instruction}
@@ -43,8 +43,9 @@ are_parts token ls = list_all (λ (l : Line). is_part token l.says) ls
 
 abbrev pub point_made : Known → List ℕ → Guarded → List Val → Instruction
 point_made known token called live =
-    instruction (Some token) (ops.Statepoint (wrapped 64 called.id) (callee_of known called.callee) (map given_type called.passed))
-    (type_of called.signature.answer) (map (passed_operand known) called.passed ++ map (used_operand known) (map live_use live)) []
+    keeping (map (kept_entry known) called.kept)
+    (instruction (Some token) (ops.Statepoint (wrapped 64 called.id) (callee_of known called.callee) (map given_type called.passed))
+    (type_of called.signature.answer) (map (passed_operand known) called.passed ++ map (used_operand known) (map live_use live)) [])
 
 abbrev pub point : ℕ → List ℕ → Guarded → List Val → Line
 point number token called live = record { number = number; says = statepoint token called live }

@@ -5,7 +5,7 @@ use Rattle.std.specs.List.{Contains, list_any}
 use Rattle.std.specs.Str.{bytes_eq}
 use Rattle.std.proofs.lemmas.Option.{same_Some}
 use Rattle.sp_ids.specs.declared.ids.ValueId.{ValueId}
-use Rattle.name_chains.proofs.Places.{bytes_eq-self}
+use Rattle.ir_lines.proofs.PlaceLemmas.{bytes_eq-self}
 use Rattle.list_laws.proofs.Contents.{contains_get, contains_first, contains_none, contains_cons}
 use Rattle.ir_ast.specs.declared.modules.Form.TheVariants.{Source, Rewritten}
 use Rattle.ir_ast.specs.declared.types.Ty.TheVariants as tys
@@ -226,7 +226,7 @@ shifts_nothing = refl
 -- a call is judged by its declaration, which is wrong and stands behind it
 abbrev declared_behind : List Line
 declared_behind =
-    text_of (call None (calling types.Void (codes "print_i64") (given (types.Int 64) (number 5) ∷ [])) ∷ end ∷ [])
+    text_of (call None (calling types.Void (codes "print_i64") (given (types.Int 64) (number 5) ∷ []) []) ∷ end ∷ [])
     ++ numbered 6 (declare types.Void (codes "print_i64") (record { ty = types.Int 32; name = None } ∷ []) ∷ [])
 
 has_5_by_call : HasTextFault Source declared_behind 3 5
@@ -242,6 +242,7 @@ grouped = text_of (
       callee = codes "main";
       count = plain 1;
       passed = [];
+      kept = [];
     }) []
     ∷ end
     ∷ []
@@ -360,6 +361,7 @@ moving = text_of (
       callee = codes "main";
       count = plain 0;
       passed = [];
+      kept = [];
     }) (values.null ∷ [])
     ∷ gc_relocate (codes "p") (codes "t") (plain 0) (plain 0)
     ∷ end

@@ -6,7 +6,7 @@ use Rattle.std.specs.Str.{bytes_eq}
 use Rattle.std.proofs.lemmas.List.{map-append}
 use Rattle.std.proofs.lemmas.Option.{same_Some, none-some}
 use Rattle.list_laws.proofs.Contents.{contains_cons, contains_none, same_bytes}
-use Rattle.name_chains.proofs.Places.{bytes_eq-self}
+use Rattle.ir_lines.proofs.PlaceLemmas.{bytes_eq-self}
 use Rattle.ir_lines.proofs.LawNames.{position-cons, stands, stands_below, number-is}
 use Rattle.ir_ast.specs.Insts.{Instruction}
 use Rattle.ir_ast.specs.Funcs.{Function}

@@ -1,7 +1,7 @@
 -- The faults of a resolved text that break a rule of its module: the line of the instruction, and the code. What its
 -- calls ask isn't judged here, since a module has no declarations.
 use Rattle.std.specs.Prelude.{◌≡◌, ℕ, ◌+◌, ◌<◌, true, false, List, ◌∷◌, ◌++◌, length, take, Some, slice_get, ⊤}
-use Rattle.std.specs.List.{AllZip}
+use Rattle.std.specs.List.{All, AllZip}
 use Rattle.sp_ids.specs.declared.ids.BlockId.{BlockId}
 use Rattle.ir_ast.specs.declared.modules.Form.TheVariants.{Source, Rewritten}
 use Rattle.ir_ast.specs.declared.ops.Operand.{Operand}
@@ -53,6 +53,7 @@ RuleBesidesCalls scope op inst = RuleOf scope op inst
 
 pub record IsTypedBesidesCalls (scope : Scope) (inst : Instruction) : Type 0 where
   pub operands : AllZip (Fits scope.values) inst.operands (asked inst.op inst.ty (length inst.operands))
+  pub bundle : All (λ entry. Fits scope.values entry.1 entry.0) inst.bundle
   pub rule : RuleBesidesCalls scope inst.op inst
 
 -- a case of a `switch` with the value of an earlier one; the first operand is what it tests

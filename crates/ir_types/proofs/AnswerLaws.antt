@@ -20,7 +20,7 @@ use Rattle.ir_resolve.specs.Resolved.{resolved}
 use Rattle.ir_resolve.specs.TextFaults.{HasTextFault}
 use Rattle.ir_resolve.specs.ModuleFaults.{HasModuleFault}
 use Rattle.ir_resolve.specs.FaultSet.{HasResolvedFault, HasNoResolvedFault, of_text, of_module}
-use Rattle.module_laws.specs.TextFunctions.{IsTextFunction}
+use Rattle.module_laws.specs.TextFunctions.{HasFewInstructions}
 use Rattle.module_laws.proofs.ReadTexts.{read-lines}
 use Rattle.module_laws.proofs.Rising.{lines-rise}
 use Rattle.module_laws.proofs.TypedTexts.{whole_typed, whole_functions}
@@ -117,6 +117,6 @@ kept-paths P whole has (Ok again) paths = subst P (sym paths.0) has
 kept-paths P whole has (Err fault) paths = tt
 
 pub functions-paths : (r : Readings) → IsRead r → (whole : LinedModule) → whole ≡ module_of r.form (seen_lines r.lines) → HasNoResolvedFault r.form (seen_lines r.lines)
-    → (answered : Result LinedModule TypeFault) → PathsAnswer whole answered → IfOk answered (λ again. All IsTextFunction again.content.funcs)
+    → (answered : Result LinedModule TypeFault) → PathsAnswer whole answered → IfOk answered (λ again. All HasFewInstructions again.content.funcs)
 functions-paths r read whole is none answered paths =
-    kept-paths (λ (w : LinedModule). All IsTextFunction w.content.funcs) whole (whole_functions r read whole is none) answered paths
+    kept-paths (λ (w : LinedModule). All HasFewInstructions w.content.funcs) whole (whole_functions r read whole is none) answered paths

@@ -1,4 +1,3 @@
-pub mod TextLemmas
 pub mod FirstLemmas
 pub mod PathLaw
 pub mod AnswerLaws

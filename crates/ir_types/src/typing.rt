@@ -2,13 +2,12 @@
 
 ghost use Rattle.std.specs.Prelude.{◌≡◌, IfOk};
 ghost use Rattle.std.specs.List.{All};
-ghost use Rattle.ir_ast.specs.Bundles.{HasNoBundle};
 ghost use Rattle.ir_ast.specs.Formed.{IsFormedModule};
 ghost use Rattle.ir_cfg.specs.TypedModules.{IsModuleOf};
 ghost use Rattle.ir_cfg.specs.SourceModules.{IsSourceModule};
 ghost use Rattle.ir_cfg.specs.TargetModules.{IsTargetModule};
 ghost use Rattle.ir_types.specs.Answers.{Answers, PathsAnswer};
-ghost use Rattle.module_laws.specs.TextFunctions.{HasFewInstructions, IsTextFunction};
+ghost use Rattle.module_laws.specs.TextFunctions.{HasFewInstructions};
 ghost use Rattle.ir_lines.specs.Views.{seen_lines};
 
 use crate::faults::TypeFault;
@@ -27,7 +26,6 @@ pub fn typed(alloc: Global, raw: Raw) -> Result<Module, TypeFault>
     requires { raw.form ≡ Form.Source }
     ensures answers { Answers Form.Source (seen_lines raw.entry.lines) result }
     ensures source { IfOk result (λ whole. IsSourceModule whole.content) }
-    ensures no_bundle { IfOk result (λ whole. All HasNoBundle whole.content.funcs) }
     ensures formed { IfOk result (λ whole. IsFormedModule whole.content) }
 {
     checked(alloc, raw)
@@ -39,7 +37,6 @@ pub fn typed_rewritten(alloc: Global, raw: Raw) -> Result<Module, TypeFault>
     ensures answers { Answers Form.Rewritten (seen_lines raw.entry.lines) result }
     ensures target { IfOk result (λ whole. IsTargetModule whole.content) }
     ensures few_instructions { IfOk result (λ whole. All HasFewInstructions whole.content.funcs) }
-    ensures no_bundle { IfOk result (λ whole. All HasNoBundle whole.content.funcs) }
     ensures formed { IfOk result (λ whole. IsFormedModule whole.content) }
 {
     checked(alloc, raw)
@@ -49,7 +46,7 @@ pub fn typed_rewritten(alloc: Global, raw: Raw) -> Result<Module, TypeFault>
 fn checked(alloc: Global, raw: Raw) -> Result<Module, TypeFault>
     ensures answers { Answers raw.entry.form (seen_lines raw.entry.lines) result }
     ensures module { IfOk result (λ whole. IsModuleOf raw.entry.form whole.content) }
-    ensures text { IfOk result (λ whole. All IsTextFunction whole.content.funcs) }
+    ensures few_instructions { IfOk result (λ whole. All HasFewInstructions whole.content.funcs) }
     ensures formed { IfOk result (λ whole. IsFormedModule whole.content) }
 {
     let form = raw.form();

@@ -10,7 +10,7 @@ use Rattle.std.proofs.lemmas.Option.{none-some, same_Some}
 use Rattle.list_laws.proofs.Contents.{all_front, all_back}
 use Rattle.list_laws.proofs.Places.{cases_below}
 use Rattle.ir_ast.specs.declared.types.Ty.{Ty}
-use Rattle.ir_ast.specs.declared.types.Ty.TheVariants.{Ptr, Token}
+use Rattle.ir_ast.specs.declared.types.Ty.TheVariants.{Token}
 use Rattle.ir_ast.specs.declared.ops.Operand.{Operand}
 use Rattle.ir_ast.specs.declared.ops.Operand.TheVariants.{Value, Int, Null, Fun}
 use Rattle.ir_ast.specs.declared.ops.Op.{Op}
@@ -19,10 +19,9 @@ use Rattle.ir_ast.specs.Insts.{Instruction}
 use Rattle.ir_ast.specs.Funcs.{Function, instructions_of}
 use Rattle.ir_ast.specs.Values.{value_types}
 use Rattle.ir_ast.specs.Operands.{value_in, named}
-use Rattle.ir_ast.specs.Faults.TypeClash.{Fits}
 use Rattle.ir_ast.specs.Faults.GroupShape.{Group, ResultInShape, RelocateInShape, ShapeOf, entries_of, is_part, is_statepoint, number_at}
 use Rattle.body_tables.specs.Bodies.{given_by}
-use Rattle.ir_verify.specs.Groups.{is_value_of, OpenGroup, kept_by, kept_open, behind_op, IsResultOf, IsRelocateOf, ResultFits, RelocateFits, number_in, HaveEntries, NamesToken, UsesNo, ShapeBy, IsOpen, Opened}
+use Rattle.ir_verify.specs.Groups.{is_value_of, OpenGroup, kept_by, kept_open, behind_op, IsResultOf, IsRelocateOf, ResultFits, RelocateFits, number_in, HaveEntries, NamesToken, UsesNo, IsApartBy, ShapeBy, IsOpen, Opened}
 use Rattle.body_tables.proofs.Values.{gives, taken_more}
 
 -- ---- parts by their first operand
@@ -294,14 +293,14 @@ module _ (func : Function) (place : ℕ) (inst : Instruction) where
   shape-to : (types : List Ty) (held : Option OpenGroup) → types ≡ value_types func → Opened func place held → (op : Op) → ShapeBy types held op inst → ShapeOf func place inst op
   shape-to types held typed opened GcResult s = result-to held opened s
   shape-to types held typed opened GcRelocate s = relocate-to held opened s
-  shape-to types held typed opened op s =
-      subst (λ (ts : List Ty). UsesNo ts inst × All (λ entry. Fits ts entry Ptr) (entries_of inst)) typed s
+  shape-to types held typed opened (Statepoint id callee params) s = (subst (λ (ts : List Ty). IsApartBy ts inst) typed s.0, s.1)
+  shape-to types held typed opened op s = subst (λ (ts : List Ty). IsApartBy ts inst) typed s
 
   shape-by : (types : List Ty) (held : Option OpenGroup) → types ≡ value_types func → Opened func place held → (op : Op) → ShapeOf func place inst op → ShapeBy types held op inst
   shape-by types held typed opened GcResult s = result-by held opened s
   shape-by types held typed opened GcRelocate s = relocate-by held opened s
-  shape-by types held typed opened op s =
-      subst (λ (ts : List Ty). UsesNo ts inst × All (λ entry. Fits ts entry Ptr) (entries_of inst)) (sym typed) s
+  shape-by types held typed opened (Statepoint id callee params) s = (subst (λ (ts : List Ty). IsApartBy ts inst) (sym typed) s.0, s.1)
+  shape-by types held typed opened op s = subst (λ (ts : List Ty). IsApartBy ts inst) (sym typed) s
 
   pub shape-iff : (types : List Ty) (held : Option OpenGroup) → types ≡ value_types func → Opened func place held
       → ShapeBy types held inst.op inst ↔ ShapeOf func place inst inst.op

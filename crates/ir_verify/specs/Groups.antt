@@ -12,7 +12,7 @@ use Rattle.ir_ast.specs.Insts.{Instruction}
 use Rattle.ir_ast.specs.Funcs.{Function}
 use Rattle.ir_ast.specs.Operands.{values_used, named}
 use Rattle.ir_ast.specs.Faults.TypeClash.{Fits}
-use Rattle.ir_ast.specs.Faults.GroupShape.{Group, entries_of, is_part}
+use Rattle.ir_ast.specs.Faults.GroupShape.{Group, entries_of, holds_live, is_part}
 use Rattle.ir_verify.specs.declared.groups.Open.{Open}
 
 -- an operand, where there is one, is this value
@@ -90,10 +90,14 @@ NamesToken types operand = ⊥
 abbrev pub UsesNo : List Ty → Instruction → Type 0
 UsesNo types inst = All (λ value. slice_get types value ≢ Some Token) (values_used inst)
 
+abbrev pub IsApartBy : List Ty → Instruction → Type 0
+IsApartBy types inst = UsesNo types inst × All (λ entry. Fits types entry Ptr) (entries_of inst)
+
 abbrev pub ShapeBy : List Ty → Option OpenGroup → Op → Instruction → Type 0
 ShapeBy types held GcResult inst = ResultFits held inst
 ShapeBy types held GcRelocate inst = RelocateFits held inst
-ShapeBy types held op inst = UsesNo types inst × All (λ entry. Fits types entry Ptr) (entries_of inst)
+ShapeBy types held (Statepoint id callee params) inst = IsApartBy types inst × (holds_live inst ≡ true)
+ShapeBy types held op inst = IsApartBy types inst
 
 -- ---- the group that is open before a place
 

@@ -1,21 +1,20 @@
 //! Statepoint groups (Garbage Collection Safepoints in LLVM, "Intrinsics").
 
-ghost use Rattle.std.specs.Prelude.{◌≡◌, ◌↔◌, ◌+◌, ◌<◌, ◌^◌, ◌++◌, ◌∷◌, [], ℕ, IsTrue, Some, slice_get, map, drop, length, is_some, if◌then◌else◌, OnOk};
-ghost use Rattle.std.specs.List.{All, filter_map};
+ghost use Rattle.std.specs.Prelude.{◌≡◌, ◌↔◌, ◌+◌, ◌<◌, ◌^◌, ◌++◌, ◌∷◌, [], ℕ, IsTrue, Some, slice_get, map, drop, length, is_some, if◌then◌else◌, OnOk, true};
+ghost use Rattle.std.specs.List.{All, filter_map, list_all, list_any};
 ghost use Rattle.std.specs.Option.{option_map};
-ghost use Rattle.ir_ast.specs.declared.types.Ty.TheVariants.{Ptr, Token};
+ghost use Rattle.ir_ast.specs.declared.types.Ty.TheVariants.{Token};
 ghost use Rattle.ir_ast.specs.declared.ops.Operand.TheVariants.{Value};
 ghost use Rattle.sp_ids.specs.declared.ids.ValueId.{ValueId};
-ghost use Rattle.ir_ast.specs.Faults.TypeClash.{Fits};
 ghost use Rattle.ir_ast.specs.Funcs.{instructions_of};
-ghost use Rattle.ir_ast.specs.Operands.{value_in, values_used, named};
+ghost use Rattle.ir_ast.specs.Operands.{same_operand, value_in, values_used, named};
 ghost use Rattle.ir_ast.specs.Values.{value_types};
-ghost use Rattle.ir_ast.specs.Faults.GroupShape.{entries_of, is_part};
+ghost use Rattle.ir_ast.specs.Faults.GroupShape.{entries_of, holds_live, is_held, is_part};
 ghost use Rattle.ir_verify.specs.Bodies.{insts_of};
 ghost use Rattle.body_tables.specs.Bodies.{seen_insts, given_by};
 ghost use Rattle.ir_verify.specs.Founds.{FoundIn};
 ghost use Rattle.ir_verify.specs.FunctionFaults.{ShapeAt};
-ghost use Rattle.ir_verify.specs.Groups.{is_value_of, seen_open, kept_open, behind_op, ResultFits, IsResultOf, RelocateFits, IsRelocateOf, number_in, NamesEntries, HaveEntries, NamesToken, UsesNo, ShapeBy};
+ghost use Rattle.ir_verify.specs.Groups.{is_value_of, seen_open, kept_open, behind_op, ResultFits, IsResultOf, RelocateFits, IsRelocateOf, number_in, NamesEntries, HaveEntries, NamesToken, UsesNo, IsApartBy, ShapeBy};
 ghost use Rattle.ir_lines.specs.Notes.{Notes};
 
 use crate::types::all_fit;
@@ -63,26 +62,6 @@ fn is_part(inst: &Inst, token: u64) -> bool
     }
 }
 
-// The "gc-live" entries of a statepoint.
-fn entries(inst: &Inst) -> &[Operand]
-    ensures { result.now ≡ entries_of inst.now }
-{
-    match inst.op() {
-        Op::Statepoint { types, .. } => behind(inst.operands(), types.list().len()),
-        _ => &[],
-    }
-}
-
-fn behind(operands: &[Operand], count: usize) -> &[Operand]
-    ensures { result.now ≡ drop count operands.now }
-{
-    if count < operands.len() {
-        &operands[count..]
-    } else {
-        &[]
-    }
-}
-
 // What is open behind a part.
 fn kept_open<'a>(held: Option<Open<'a>>, inst: &Inst) -> Option<Open<'a>>
     ensures { option_map seen_open result ≡ kept_open (option_map seen_open held.entry) inst.now }
@@ -112,7 +91,7 @@ fn open_behind<'a>(held: Option<Open<'a>>, number: u64, inst: &'a Inst) -> Optio
         Op::Statepoint { .. } => Some(Open {
             number,
             answer: *inst.ty(),
-            live: entries(inst),
+            live: inst.live_entries(),
             is_fresh: true,
         }),
         Op::GcResult => kept_open(held, inst),
@@ -264,10 +243,46 @@ fn uses_no_token(types: &[Ty], inst: &Inst) -> bool
     no_token(types, inst.operands()) && no_token_kept(types, inst.bundle())
 }
 
-fn is_plain(types: &[Ty], inst: &Inst) -> bool
-    ensures { IsTrue result ↔ (UsesNo types.now inst.now × All (λ entry. Fits types.now entry Ptr) (entries_of inst.now)) }
+fn is_apart(types: &[Ty], inst: &Inst) -> bool
+    ensures { IsTrue result ↔ IsApartBy types.now inst.now }
 {
-    uses_no_token(types, inst) && all_fit(types, entries(inst), Ty::Ptr)
+    uses_no_token(types, inst) && all_fit(types, inst.live_entries(), Ty::Ptr)
+}
+
+// ---- what a statepoint keeps
+
+fn has_entry(live: &[Operand], operand: Operand) -> bool
+    ensures { result ≡ list_any (λ entry. same_operand entry operand) live.now }
+{
+    live.iter().any(|entry| entry.is_same(operand))
+}
+
+fn is_held(live: &[Operand], entry: &(Ty, Operand)) -> bool
+    ensures { result ≡ is_held live.now entry.now.0 entry.now.1 }
+{
+    match entry {
+        (Ty::Ptr, Operand::Value(_)) => has_entry(live, entry.1),
+        _ => true,
+    }
+}
+
+fn all_held(live: &[Operand], bundle: &[(Ty, Operand)]) -> bool
+    ensures { result ≡ list_all (λ entry. is_held live.now entry.0 entry.1) bundle.now }
+{
+    bundle.iter().all(|entry| is_held(live, entry))
+}
+
+// Whether each pointer that the bundle of a statepoint names is one of its live entries.
+fn holds_live(inst: &Inst) -> bool
+    ensures { result ≡ holds_live inst.now }
+{
+    all_held(inst.live_entries(), inst.bundle())
+}
+
+fn keeps_live(types: &[Ty], inst: &Inst) -> bool
+    ensures { IsTrue result ↔ (IsApartBy types.now inst.now × (holds_live inst.now ≡ true)) }
+{
+    is_apart(types, inst) && holds_live(inst)
 }
 
 // Whether an instruction is in shape, behind which group is open.
@@ -277,7 +292,8 @@ fn in_shape(types: &[Ty], held: Option<Open>, inst: &Inst) -> bool
     match inst.op() {
         Op::GcResult => result_fits(held, inst),
         Op::GcRelocate => relocate_fits(held, inst),
-        _ => is_plain(types, inst),
+        Op::Statepoint { .. } => keeps_live(types, inst),
+        _ => is_apart(types, inst),
     }
 }
 

@@ -87,6 +87,18 @@ fn same_fit(values: &[Ty], operands: &[Operand], ty: Ty) -> bool
     all_fit(values, operands, ty)
 }
 
+// Whether the entries of a bundle fit their types.
+fn bundle_fits(values: &[Ty], bundle: &[(Ty, Operand)]) -> bool
+    ensures { IsTrue result ↔ All (λ entry. Fits values.now entry.1 entry.0) bundle.now }
+{
+    for entry in bundle {
+        if !fits(values, entry.1, entry.0) {
+            return false;
+        }
+    }
+    true
+}
+
 // ---- what a line asks besides
 
 fn is_narrower(width: u32, ty: Ty) -> bool
@@ -174,6 +186,14 @@ fn operands_fit(values: &[Ty], inst: &Inst) -> bool
     }
 }
 
+// Whether the operands of a line fit, and the entries of its bundle.
+fn uses_fit(values: &[Ty], inst: &Inst) -> bool
+    ensures { IsTrue result ↔ (AllZip (Fits values.now) inst.now.operands (asked inst.now.op inst.now.ty (length inst.now.operands))
+        × All (λ entry. Fits values.now entry.1 entry.0) inst.now.bundle) }
+{
+    operands_fit(values, inst) && bundle_fits(values, inst.bundle())
+}
+
 fn keeps_rule(module: &Module, func: &Func, inst: &Inst) -> bool
     ensures { IsTrue result ↔ RuleBesidesCalls (scope_of «module».now.content func.now.content) inst.now.op inst.now }
 {
@@ -195,5 +215,5 @@ pub(crate) fn is_typed(module: &Module, func: &Func, values: &[Ty], inst: &Inst)
     requires { values.now ≡ value_types func.now.content }
     ensures { IsTrue result ↔ IsTypedBesidesCalls (scope_of «module».now.content func.now.content) inst.now }
 {
-    operands_fit(values, inst) && keeps_rule(module, func, inst)
+    uses_fit(values, inst) && keeps_rule(module, func, inst)
 }

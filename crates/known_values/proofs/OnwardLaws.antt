@@ -23,15 +23,17 @@ use Rattle.object_meaning.specs.Jumps.{arrived, incoming, phi_count}
 use Rattle.object_meaning.specs.Lines.{Line}
 use Rattle.object_meaning.specs.Registers.{nothing, operand, put, put_all}
 use Rattle.object_meaning.specs.States.{Frame, Setting}
+use Rattle.object_meaning.proofs.RegisterLaws.{put_length, puts_length}
 use Rattle.base_definite.specs.Comings.{Comes, over_edge, past_line, to_entry}
 use Rattle.base_definite.proofs.base_paths.UndefinedLaws.{at_first, behind_edge}
+use Rattle.base_definite.proofs.LinePlaces.{LineFrom, line_from}
 use Rattle.known_values.specs.Meanings.{AllHold, AreKnown, Holds, IsGiven, Meaning, Meanings, by_line, by_phi}
 use Rattle.known_values.specs.Onward.{LeadsTo, Onward, accessed, accesses_cell, answered, behind, by_br, by_condition, by_switch, computed, computes, is_calling, jumped, skipped}
 use Rattle.known_values.specs.Statements.{Knows, KnowsAs}
 use Rattle.known_values.specs.Texts.{LeadsAlong, RunsText}
 use Rattle.known_values.proofs.FrameLaws.{IsKept}
-use Rattle.known_values.proofs.PlaceLaws.{LineFrom, line_from, own_written}
-use Rattle.known_values.proofs.WriteLaws.{Behind, Further, further, one_further, put_behind, put_length, puts_length, write_of}
+use Rattle.known_values.proofs.PlaceLaws.{own_written}
+use Rattle.known_values.proofs.WriteLaws.{Behind, Further, further, one_further, put_behind, write_of}
 
 -- ---- lines that give no value with a meaning
 

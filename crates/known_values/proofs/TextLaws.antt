@@ -1,14 +1,14 @@
 -- The two meanings run the texts of typed functions: the target meaning as they stand, the source meaning with their polls.
-use Rattle.std.proofs.Common.{◌≡◌, ℕ, zero, suc, ◌+◌, ◌-◌, ◌<◌, ◌≤◌, Bool, true, false, not, ltb, if◌then◌else◌, List, [], ◌∷◌, ◌++◌, length, drop, refl, sym, ap, subst, ◌∙◌, inl, inr, arith}
+use Rattle.std.proofs.Common.{◌≡◌, ℕ, zero, suc, ◌+◌, ◌-◌, ◌<◌, Bool, true, not, if◌then◌else◌, List, [], ◌∷◌, ◌++◌, length, drop, refl, sym, ap, subst, ◌∙◌, inl, inr, arith}
 use Rattle.std.specs.Prelude.{⊤, Option, Some, None, slice_get, slice_index}
-use Rattle.std.specs.List.{All, Contains, position, position_or_len}
+use Rattle.std.specs.List.{All, Contains}
 use Rattle.std.specs.Option.{option_map, option_map_or}
-use Rattle.std.proofs.lemmas.Bool.{cases_Bool, false≢true, ltb-true}
+use Rattle.std.proofs.lemmas.Bool.{false≢true}
 use Rattle.std.proofs.lemmas.List.{length-append, length-drop, length-map}
 use Rattle.std.proofs.lemmas.Option.{none-some, slice_get_within}
 use Rattle.list_laws.proofs.Contents.{all_at, all_from_at, contains_get, get_contained, joined_contains}
 use Rattle.list_laws.proofs.Places.{get_some, pushed_cases}
-use Rattle.list_laws.proofs.Tests.{all_passes}
+use Rattle.list_laws.proofs.Tests.{all_passes, position_within}
 use Rattle.sp_ids.specs.declared.ids.BlockId.{BlockId}
 use Rattle.ir_ast.specs.declared.modules.Form.{Form}
 use Rattle.ir_ast.specs.declared.modules.Form.TheVariants.{Rewritten, Source}
@@ -34,15 +34,14 @@ use Rattle.ir_cfg.proofs.PathLemmas.{edge_within}
 use Rattle.object_meaning.specs.BlockLines.{lines_at}
 use Rattle.object_meaning.specs.Jumps.{branch_taken, case_taken, is_case, label_at}
 use Rattle.object_meaning.specs.Lines.{Line, after_all, lines_from, lines_of, poll, register_count, registers_of}
-use Rattle.object_meaning.specs.Registers.{is_set, number_in}
+use Rattle.object_meaning.specs.Registers.{number_in}
 use Rattle.object_meaning.specs.SourceRuns.{source_setting}
 use Rattle.object_meaning.specs.TargetRuns.{plain_lines, target_setting}
-use Rattle.object_meaning.proofs.LineLaws.{last_register}
+use Rattle.object_meaning.proofs.LineLaws.{last_register, branch_within}
+use Rattle.object_meaning.proofs.GivenLaws.{after_is, definition_count}
 use Rattle.base_forms.specs.Polls.{placed, placed_block}
-use Rattle.base_laws.proofs.BlockLaws.{after_is}
 use Rattle.base_laws.proofs.FormLaws.{ends_placed}
-use Rattle.base_laws.proofs.NumberLaws.{definition_count}
-use Rattle.base_laws.proofs.PlacedLaws.{all_placed, block_placed, plain_polled, registers_placed, results_placed}
+use Rattle.base_forms.proofs.PlacedLaws.{all_placed, block_placed, plain_polled, registers_placed, results_placed}
 use Rattle.base_laws.proofs.PollLaws.{graph_placed}
 use Rattle.base_definite.proofs.PolledUses.{none_undefined}
 use Rattle.base_definite.proofs.base_paths.GivesLaws.{defines_gives}
@@ -66,16 +65,6 @@ labels_fit ops.Br inst line = line.label_count
 labels_fit ops.CondBr inst line = line.label_count
 labels_fit ops.Switch inst line = (line.0.label_count, line.1)
 labels_fit op inst line = tt
-
-position_within : {A : Type 0} (test : A → Bool) (xs : List A) → option_map_or (λ place. place + 1) (position test xs) 0 ≤ length xs
-position_within test xs = elim (cases_Bool (ltb (position_or_len test xs) (length xs))) [
-  | inl within ↦ rw within (let below = ltb-true (position_or_len test xs) (length xs) within in omega arith)
-  | inr past ↦ rw past (omega arith)
-]
-
-branch_below : (t : Bool) → (if t then 0 else 1) < 2
-branch_below true = omega arith
-branch_below false = omega arith
 
 -- a function whose blocks end at their only terminator, which has as many labels as it takes
 record IsLaidOut (func : Function) : Type 0 where
@@ -117,7 +106,7 @@ module _ (func : Function) (out : IsLaidOut func) where
   leads_by : (block place : ℕ) (inst : Instruction) → Stands func block place inst → (op : Op) → inst.op ≡ op → LabelsFit op inst → LeadsAlong func block inst op
   leads_by block place inst stands ops.Br is count = leads_along block place inst stands (ap is_terminator is) 0 (omega arith)
   leads_by block place inst stands ops.CondBr is count = λ datum.
-      let below = branch_below (is_set datum) in
+      let below = branch_within datum in
       leads_along block place inst stands (ap is_terminator is) (branch_taken datum) (omega (arith, count, below))
   leads_by block place inst stands ops.Switch is count = λ datum.
       let many = count.0 in

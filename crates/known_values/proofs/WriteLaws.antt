@@ -3,7 +3,7 @@
 use Rattle.std.proofs.Common.{◌≡◌, ℕ, suc, ◌+◌, ◌<◌, List, [], ◌∷◌, length, map, take, refl, sym, ap, subst, ◌∙◌, inl, inr, ◌⊎◌, arith}
 use Rattle.std.specs.Prelude.{Option, Some, None, slice_get}
 use Rattle.std.specs.List.{Contains}
-use Rattle.std.proofs.lemmas.List.{get_or-set_other, length-set}
+use Rattle.std.proofs.lemmas.List.{get_or-set_other}
 use Rattle.ir_ast.specs.Funcs.{Function}
 use Rattle.ir_ast.specs.Layouts.{ObjectLayout}
 use Rattle.ir_ast.specs.Objects.{Datum}
@@ -14,8 +14,9 @@ use Rattle.object_meaning.specs.Registers.{Write, nothing, put, put_all}
 use Rattle.base_definite.specs.Comings.{Comes, past_line}
 use Rattle.base_definite.proofs.base_paths.GivesLaws.{defines_or_not}
 use Rattle.base_definite.proofs.base_paths.UndefinedLaws.{Undefined, behind_line, first_time}
+use Rattle.base_definite.proofs.LinePlaces.{LineFrom, line_from, writes_own}
 use Rattle.known_values.specs.Meanings.{AllHold, AreKnown, Holds, Meaning, Meanings, register}
-use Rattle.known_values.proofs.PlaceLaws.{LineFrom, any_defined, defined_high, line_from, writes_own}
+use Rattle.known_values.proofs.PlaceLaws.{any_defined, defined_high}
 
 -- ---- registers
 
@@ -23,17 +24,9 @@ pub put_other : (to : Option ℕ) (datum : Datum) (registers : List Datum) (valu
 put_other None datum registers value apart = refl
 put_other (Some own) datum registers value apart = get_or-set_other registers own value datum nothing (λ same. apart (ap (λ n. Some n) (sym same)))
 
-pub put_length : (to : Option ℕ) (datum : Datum) (registers : List Datum) → length (put to datum registers) ≡ length registers
-put_length None datum registers = refl
-put_length (Some own) datum registers = length-set registers own datum
-
 -- the write of each line, of a value that is computed before
 abbrev pub write_of : (Line → Datum) → Line → Write
 write_of value_of line = record { to = line.to; value = value_of line }
-
-pub puts_length : (writes : List Write) (registers : List Datum) → length (put_all writes registers) ≡ length registers
-puts_length [] registers = refl
-puts_length (write ∷ writes) registers = puts_length writes (put write.to write.value registers) ∙ put_length write.to write.value registers
 
 module _ (layouts : List ObjectLayout) (func : Function) (meanings : Meanings) (known : AreKnown layouts func meanings) where
   -- ---- one line

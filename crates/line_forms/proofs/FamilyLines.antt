@@ -27,8 +27,9 @@ use Rattle.line_tokens.specs.Families.{statepoint_name, relocate_name, result_fr
 use Rattle.line_parts.specs.Parts.{word_at, mark_at, local_at, global_at, width_at, value_at, case_value_at, addrspace_at, pointer_at, spelled_type_at, type_behind, allowed_type_at, is_value_type, is_answer_type, is_cast_type, is_scalar_type, is_managed, place_at, strategy_at, to_brace_at}
 use Rattle.line_tokens.specs.Words.{pred_of}
 use Rattle.line_parts.specs.Lists.{Named, Given, fields_at, entries_at, head_at, called_at, arguments_at, all_passed_at, is_task_start}
-use Rattle.line_parts.specs.Groups.{number_at, zero_at, token_at, types_at, handed_at, closing_at, live_at, result_at, named_result, suffix_of, is_family, declares_family, family_answer_at, bracketing_at}
-use Rattle.line_forms.specs.Slots.{Slot, Item, says, says_nothing, part, parse, blank, m, w, g, dropped, a_managed, a_quoted, a_hash, to_brace, a_local, a_layout_name, a_width, a_type, an_answer, a_cast_type, a_value, a_case, a_pred, a_scalar, a_layout, a_place, some_fields, some_entries, a_declared, a_defined, a_called, a_strategy, a_zero, a_closing, a_family_answer, a_family, a_bracketing, a_token, a_global, some_types, some_handed, some_live, a_result, a_number, name, layout_name, width, ty, value, pred, scalar, layout, place, fields, entries, declared, defined, called, strategy, types as types_said, handed, live, literal, family_answer}
+use Rattle.line_parts.specs.Bundles.{deopt_at, bundles_at}
+use Rattle.line_parts.specs.Groups.{number_at, zero_at, token_at, types_at, handed_at, closing_at, result_at, named_result, suffix_of, is_family, declares_family, family_answer_at, bracketing_at}
+use Rattle.line_forms.specs.Slots.{Slot, Item, says, says_nothing, part, parse, blank, m, w, g, dropped, a_managed, a_quoted, a_hash, to_brace, a_local, a_layout_name, a_width, a_type, an_answer, a_cast_type, a_value, a_case, a_pred, a_scalar, a_layout, a_place, some_fields, some_entries, a_declared, a_defined, a_called, a_strategy, a_zero, a_closing, a_family_answer, a_family, a_bracketing, a_token, a_global, some_types, some_handed, some_deopt, some_bundles, a_result, a_number, name, layout_name, width, ty, value, pred, scalar, layout, place, fields, entries, declared, defined, called, strategy, types as types_said, handed, deopt, bundles, literal, family_answer}
 use Rattle.line_forms.specs.Forms.{slots, agree, fit, or_else, first_types, last_types, form_of, first_global, callee_of, declared_of, behind_result, called_form, declared_form, group_form, form_in, is_group_form, names_family, stands_in}
 use Rattle.line_forms.proofs.Openings.{told, rest_is, said_is, word_found, mark_found, local_found, like, opens, found_is}
 use Rattle.sp_text.proofs.Spelled.{numeral_digits}
@@ -131,7 +132,8 @@ unnamed_part a_token ts here rest names e = says_unnamed name (token_at ts) (λ 
 unnamed_part a_global ts here rest names e = says_unnamed name (global_at ts) (λ x. refl) here rest e
 unnamed_part some_types ts here rest names e = says_unnamed types_said (types_at ts) (λ x. refl) here rest e
 unnamed_part some_handed ts here rest names e = says_unnamed handed (handed_at ts) (λ x. refl) here rest e
-unnamed_part some_live ts here rest names e = says_unnamed live (live_at ts) (λ x. refl) here rest e
+unnamed_part some_deopt ts here rest names e = says_unnamed deopt (deopt_at ts) (λ x. refl) here rest e
+unnamed_part some_bundles ts here rest names e = says_unnamed (λ both. bundles both.0 both.1) (bundles_at ts) (λ x. refl) here rest e
 unnamed_part a_result ts here rest names e = says_unnamed ty (result_at ts) (λ x. refl) here rest e
 unnamed_part (a_number of_type) ts here rest names e = says_unnamed literal (number_at of_type ts) (λ x. refl) here rest e
 

@@ -1,4 +1,5 @@
 pub mod FamilyLines
 pub mod Openings
 pub mod Operators
+mod Samples
 pub mod Segments

@@ -20,7 +20,7 @@ use Rattle.line_parts.specs.Groups.{takes_own}
 use Rattle.line_tokens.specs.Families.{statepoint_name, relocate_name, is_result_name, is_family_name}
 use Rattle.line_tokens.specs.Words.{spelled_by, binary_word, binary_flags, conversion_word, conversion_flags, cast_word, all_binaries, all_conversions, all_casts}
 use Rattle.line_forms.specs.Slots as items
-use Rattle.line_forms.specs.Slots.{Slot, Item, parse, called, declared, blank, m, w, g, dropped, a_managed, a_quoted, a_hash, to_brace, a_local, a_layout_name, a_width, a_type, an_answer, a_cast_type, a_value, a_case, a_pred, a_scalar, a_layout, a_place, some_fields, some_entries, a_declared, a_defined, a_called, a_strategy, a_zero, a_closing, a_family_answer, a_family, a_bracketing, a_token, a_global, some_types, some_handed, some_live, a_result, a_number}
+use Rattle.line_forms.specs.Slots.{Slot, Item, parse, called, declared, blank, m, w, g, dropped, a_managed, a_quoted, a_hash, to_brace, a_local, a_layout_name, a_width, a_type, an_answer, a_cast_type, a_value, a_case, a_pred, a_scalar, a_layout, a_place, some_fields, some_entries, a_declared, a_defined, a_called, a_strategy, a_zero, a_closing, a_family_answer, a_family, a_bracketing, a_token, a_global, some_types, some_handed, some_deopt, some_bundles, a_result, a_number}
 
 -- ---- the slots of each form
 
@@ -63,9 +63,9 @@ callee_type = w (codes "ptr") ∷ dropped drops.BesideElementType ∷ blank ∷ 
 abbrev pub callee_count : List Slot
 callee_count = dropped drops.BesideElementType ∷ blank ∷ a_global ∷ m (codes ",") ∷ blank ∷ a_number (codes "i32") ∷ m (codes ",") ∷ blank ∷ a_zero ∷ []
 
--- the arguments and the live entries: `, T V, .., i32 0, i32 0) [ "gc-live"(P V, ..) ]`
+-- the arguments and the bundles: `, T V, .., i32 0, i32 0) [ "deopt"(T V, ..), "gc-live"(P V, ..) ]`
 abbrev pub point_end : List Slot
-point_end = some_handed ∷ a_closing ∷ dropped drops.Groups ∷ some_live ∷ ended
+point_end = some_handed ∷ a_closing ∷ dropped drops.Groups ∷ some_bundles ∷ ended
 
 abbrev pub slots : Form → List Slot
 slots (forms.Dropped drop_lines.SourceFilename) = w (codes "source_filename") ∷ blank ∷ m (codes "=") ∷ blank ∷ a_quoted ∷ []
@@ -86,8 +86,8 @@ slots forms.ScalarElement = result_is (w (codes "getelementptr") ∷ flagged fla
 slots forms.LayoutElement = result_is (w (codes "getelementptr") ∷ flagged flags.Bounds ∷ blank ∷ a_layout ∷ m (codes ",") ∷ blank ∷ a_managed ∷ blank ∷ a_value ∷ m (codes ",") ∷ blank ∷ a_width ∷ blank ∷ a_value ∷ a_place ∷ ended)
 slots forms.Load = result_is (w (codes "load") ∷ blank ∷ a_type ∷ m (codes ",") ∷ blank ∷ a_managed ∷ blank ∷ a_value ∷ dropped drops.Alignments ∷ ended)
 slots forms.Store = w (codes "store") ∷ blank ∷ a_type ∷ blank ∷ a_value ∷ m (codes ",") ∷ blank ∷ a_managed ∷ blank ∷ a_value ∷ dropped drops.Alignments ∷ ended
-slots forms.ValueCall = result_is (flagged flags.Calling ∷ w (codes "call") ∷ dropped drops.Groups ∷ blank ∷ a_type ∷ blank ∷ a_called ∷ dropped drops.Groups ∷ ended)
-slots forms.VoidCall = flagged flags.Calling ∷ w (codes "call") ∷ dropped drops.Groups ∷ blank ∷ w (codes "void") ∷ blank ∷ a_called ∷ dropped drops.Groups ∷ ended
+slots forms.ValueCall = result_is (flagged flags.Calling ∷ w (codes "call") ∷ dropped drops.Groups ∷ blank ∷ a_type ∷ blank ∷ a_called ∷ dropped drops.Groups ∷ some_deopt ∷ ended)
+slots forms.VoidCall = flagged flags.Calling ∷ w (codes "call") ∷ dropped drops.Groups ∷ blank ∷ w (codes "void") ∷ blank ∷ a_called ∷ dropped drops.Groups ∷ some_deopt ∷ ended
 slots forms.Jump = w (codes "br") ∷ blank ∷ label_then ended
 slots forms.Branch = w (codes "br") ∷ blank ∷ w (codes "i1") ∷ blank ∷ a_value ∷ m (codes ",") ∷ blank ∷ label_then (m (codes ",") ∷ blank ∷ label_then ended)
 slots forms.Switch = w (codes "switch") ∷ blank ∷ a_width ∷ blank ∷ a_value ∷ m (codes ",") ∷ blank ∷ label_then (blank ∷ m (codes "[") ∷ [])

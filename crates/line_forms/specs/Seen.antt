@@ -6,16 +6,22 @@ use Rattle.line_forms.specs.declared.forms.Form.{Form}
 use Rattle.line_forms.specs.declared.forms.Form.TheVariants as forms
 use Rattle.line_forms.specs.declared.readings.Reading.{Reading}
 use Rattle.line_forms.specs.declared.readings.Reading.TheVariants as readings
+use Rattle.line_forms.specs.declared.kept.KeptEntry.{KeptEntry}
 use Rattle.std.specs.Option.{option_copied}
 use Rattle.sp_text.specs.Tokens.{Tok}
 use Rattle.line_parts.specs.Types.{TypeWord}
+use Rattle.line_parts.specs.Parts.{Val}
 use Rattle.line_parts.specs.declared.faults.Stop.{Stop}
 use Rattle.line_parts.specs.declared.faults.Stop.TheVariants as stops
 use Rattle.line_parts.specs.Gives.{Found, after, end_of}
 use Rattle.line_parts.specs.Seen.{seen_type, seen_value, seen_argument, seen_passed, seen_entry}
 use Rattle.ir_ast.specs.declared.modules.Form.{Form as TextForm}
 use Rattle.line_forms.specs.Forms.{slots, fit, form_in, is_operator_form}
-use Rattle.line_forms.specs.Slots.{Item, parse, name, layout_name, width, ty, value, pred, scalar, layout, place, fields, entries, declared, defined, called, strategy, types, handed, live, literal, family_answer}
+use Rattle.line_forms.specs.Slots.{Item, parse, name, layout_name, width, ty, value, pred, scalar, layout, place, fields, entries, declared, defined, called, strategy, types, handed, deopt, bundles, literal, family_answer}
+
+-- what a frame keeps
+abbrev pub seen_kept : KeptEntry → Val × TypeWord
+seen_kept entry = (seen_value entry.value, seen_type entry.ty)
 
 -- a line that is made of tokens: its form, and what it says at the form's slots
 pub record Line : Type 0 where
@@ -45,8 +51,8 @@ seen (readings.ScalarElement x e a n i) = of_form forms.ScalarElement (name x.by
 seen (readings.LayoutElement x l a n i p) = of_form forms.LayoutElement (name x.bytes.now ∷ layout l.bytes.now ∷ value (seen_value a) ∷ width n.bits ∷ value (seen_value i) ∷ place p ∷ [])
 seen (readings.Load x t a) = of_form forms.Load (name x.bytes.now ∷ ty (seen_type t) ∷ value (seen_value a) ∷ [])
 seen (readings.Store t v a) = of_form forms.Store (ty (seen_type t) ∷ value (seen_value v) ∷ value (seen_value a) ∷ [])
-seen (readings.ValueCall x t f ps) = of_form forms.ValueCall (name x.bytes.now ∷ ty (seen_type t) ∷ called f.bytes.now (map seen_passed ps.items) ∷ [])
-seen (readings.VoidCall f ps) = of_form forms.VoidCall (called f.bytes.now (map seen_passed ps.items) ∷ [])
+seen (readings.ValueCall x t f ps kept) = of_form forms.ValueCall (name x.bytes.now ∷ ty (seen_type t) ∷ called f.bytes.now (map seen_passed ps.items) ∷ deopt (map seen_kept kept.items) ∷ [])
+seen (readings.VoidCall f ps kept) = of_form forms.VoidCall (called f.bytes.now (map seen_passed ps.items) ∷ deopt (map seen_kept kept.items) ∷ [])
 seen (readings.Jump l) = of_form forms.Jump (name l.bytes.now ∷ [])
 seen (readings.Branch c l r) = of_form forms.Branch (value (seen_value c) ∷ name l.bytes.now ∷ name r.bytes.now ∷ [])
 seen (readings.Switch n v d) = of_form forms.Switch (width n.bits ∷ value (seen_value v) ∷ name d.bytes.now ∷ [])
@@ -56,7 +62,7 @@ seen readings.ReturnVoid = of_form forms.ReturnVoid []
 seen (readings.Return t v) = of_form forms.Return (ty (seen_type t) ∷ value (seen_value v) ∷ [])
 seen readings.Unreachable = of_form forms.Unreachable []
 seen (readings.Cast x op t v u) = of_form (forms.Cast op) (name x.bytes.now ∷ ty (seen_type t) ∷ value (seen_value v) ∷ ty (seen_type u) ∷ [])
-seen (readings.Statepoint x c vs) = of_form forms.Statepoint (name x.bytes.now ∷ literal c.value.id ∷ ty (seen_type c.value.function_type.answer) ∷ types (map seen_type c.value.function_type.parameters.items) ∷ name c.value.callee.bytes.now ∷ literal c.value.count ∷ handed (map seen_passed c.value.passed.items) ∷ live (map seen_value vs.items) ∷ [])
+seen (readings.Statepoint x c vs) = of_form forms.Statepoint (name x.bytes.now ∷ literal c.value.id ∷ ty (seen_type c.value.function_type.answer) ∷ types (map seen_type c.value.function_type.parameters.items) ∷ name c.value.callee.bytes.now ∷ literal c.value.count ∷ handed (map seen_passed c.value.passed.items) ∷ bundles (map seen_kept c.value.kept.items) (map seen_value vs.items) ∷ [])
 seen (readings.GcResult x t token) = of_form forms.GcResult (name x.bytes.now ∷ ty (seen_type t) ∷ name token.bytes.now ∷ [])
 seen (readings.GcRelocate x token b d) = of_form forms.GcRelocate (name x.bytes.now ∷ name token.bytes.now ∷ literal b ∷ literal d ∷ [])
 

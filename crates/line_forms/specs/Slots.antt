@@ -11,7 +11,8 @@ use Rattle.line_parts.specs.Drops.{past_all}
 use Rattle.line_parts.specs.Parts.{Val, word_at, mark_at, local_at, global_at, width_at, value_at, case_value_at, allowed_type_at, is_value_type, is_answer_type, is_cast_type, is_scalar_type, is_managed, place_at, strategy_at, to_brace_at}
 use Rattle.line_tokens.specs.Words.{pred_of}
 use Rattle.line_parts.specs.Lists.{Named, Given, fields_at, entries_at, head_at, called_at}
-use Rattle.line_parts.specs.Groups.{number_at, zero_at, token_at, types_at, handed_at, closing_at, live_at, result_at, declares_family, family_answer_at, bracketing_at}
+use Rattle.line_parts.specs.Groups.{number_at, zero_at, token_at, types_at, handed_at, closing_at, result_at, declares_family, family_answer_at, bracketing_at}
+use Rattle.line_parts.specs.Bundles.{deopt_at, bundles_at}
 
 -- what a form says at a slot
 pub data Item : Type 0 where
@@ -32,7 +33,10 @@ pub data Item : Type 0 where
   strategy : Option (List ℕ) → Item
   types : List TypeWord → Item
   handed : List Given → Item
-  live : List Val → Item
+  -- what a call keeps
+  deopt : List (Val × TypeWord) → Item
+  -- what a statepoint keeps, and its live entries
+  bundles : List (Val × TypeWord) → List Val → Item
   literal : Literal → Item
   -- none where it is `token`
   family_answer : Option TypeWord → Item
@@ -80,7 +84,8 @@ pub data Slot : Type 0 where
   a_global : Slot
   some_types : Slot
   some_handed : Slot
-  some_live : Slot
+  some_deopt : Slot
+  some_bundles : Slot
   a_result : Slot
   -- a number of this type
   a_number : List ℕ → Slot
@@ -129,7 +134,8 @@ part a_token ts = says name (token_at ts)
 part a_global ts = says name (global_at ts)
 part some_types ts = says types (types_at ts)
 part some_handed ts = says handed (handed_at ts)
-part some_live ts = says live (live_at ts)
+part some_deopt ts = says deopt (deopt_at ts)
+part some_bundles ts = says (λ both. bundles both.0 both.1) (bundles_at ts)
 part a_result ts = says ty (result_at ts)
 part (a_number of_type) ts = says literal (number_at of_type ts)
 

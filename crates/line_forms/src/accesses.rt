@@ -4,6 +4,7 @@
 ghost use Rattle.line_parts.specs.Gives.{Gives};
 ghost use Rattle.line_forms.specs.Seen.{seen, line_at, behind_operator};
 
+use crate::bundles::deopt_if_any;
 use crate::forms::Form;
 use crate::readings::Reading;
 use line_parts::{Cursor, Stop};
@@ -101,12 +102,14 @@ pub fn value_call<'a>(cursor: &mut Cursor<'_, 'a>, alloc: Global) -> Result<Read
     let answer = cursor.value_type()?;
     let (callee, passed) = cursor.called(alloc)?;
     cursor.skip(Dropped::Groups);
+    let kept = deopt_if_any(cursor, alloc)?;
     cursor.skip(Dropped::Attachments);
     Ok(Reading::ValueCall {
         result,
         answer,
         callee,
         passed,
+        kept,
     })
 }
 
@@ -120,6 +123,11 @@ pub fn void_call<'a>(cursor: &mut Cursor<'_, 'a>, alloc: Global) -> Result<Readi
     cursor.word(b"void")?;
     let (callee, passed) = cursor.called(alloc)?;
     cursor.skip(Dropped::Groups);
+    let kept = deopt_if_any(cursor, alloc)?;
     cursor.skip(Dropped::Attachments);
-    Ok(Reading::VoidCall { callee, passed })
+    Ok(Reading::VoidCall {
+        callee,
+        passed,
+        kept,
+    })
 }

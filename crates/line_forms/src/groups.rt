@@ -7,12 +7,13 @@ ghost use Rattle.sp_text.specs.Tokens.{Tok};
 ghost use Rattle.line_parts.specs.Gives.{Gives};
 ghost use Rattle.line_parts.specs.Seen.{seen_type, seen_passed, seen_value};
 ghost use Rattle.line_forms.specs.Forms.{result_is, calling, first_types, last_types, point_id, callee_type, callee_count, point_end};
-ghost use Rattle.line_forms.specs.Seen.{seen, of_form, line_at, dropped_says};
-ghost use Rattle.line_forms.specs.Slots.{name, ty, types, literal, handed, live, parse};
+ghost use Rattle.line_forms.specs.Seen.{seen, seen_kept, of_form, line_at, dropped_says};
+ghost use Rattle.line_forms.specs.Slots.{name, ty, types, literal, handed, bundles, parse};
 
-use crate::bundles::{LiveEntries, live_if_any};
+use crate::bundles::{LiveEntries, bundles_if_any};
 use crate::families::{bracketing, family_answer, family_name};
 use crate::forms::{DroppedLine, Form};
+use crate::kept::Kept;
 use crate::readings::{FunctionType, Reading, StatepointCall};
 use crate::results::{relocate_function, result_type, statepoint_function};
 use line_parts::{
@@ -105,19 +106,19 @@ fn callee_count<'a>(cursor: &mut Cursor<'_, 'a>) -> Result<(Name<'a>, Literal), 
     Ok((callee, count))
 }
 
-// The arguments and the live entries.
+// The arguments and the bundles.
 fn point_end<'a>(
     cursor: &mut Cursor<'_, 'a>,
     alloc: Global,
-) -> Result<(AllPassed<'a>, LiveEntries<'a>), Stop>
-    ensures { Gives (λ end. handed (map seen_passed end.0.items) ∷ live (map seen_value end.1.items) ∷ []) result cursor.new (parse point_end cursor.old) }
+) -> Result<(AllPassed<'a>, (Kept<'a>, LiveEntries<'a>)), Stop>
+    ensures { Gives (λ end. handed (map seen_passed end.0.items) ∷ bundles (map seen_kept end.1.0.items) (map seen_value end.1.1.items) ∷ []) result cursor.new (parse point_end cursor.old) }
 {
     let passed = handed(cursor, alloc)?;
     closing(cursor)?;
     cursor.skip(Dropped::Groups);
-    let live = live_if_any(cursor, alloc)?;
+    let both = bundles_if_any(cursor, alloc)?;
     cursor.skip(Dropped::Attachments);
-    Ok((passed, live))
+    Ok((passed, both))
 }
 
 // A statepoint, whose call is kept apart, so that other readings stay small.
@@ -130,7 +131,7 @@ fn boxed<'a>(
     ensures { (rest : List Tok) → Gives seen result rest (Some (
       of_form Form.Statepoint (name token.entry.bytes.now ∷ literal call.entry.id
           ∷ ty (seen_type call.entry.function_type.answer) ∷ types (map seen_type call.entry.function_type.parameters.items) ∷ name call.entry.callee.bytes.now
-          ∷ literal call.entry.count ∷ handed (map seen_passed call.entry.passed.items) ∷ live (map seen_value entries.entry.items) ∷ []),
+          ∷ literal call.entry.count ∷ handed (map seen_passed call.entry.passed.items) ∷ bundles (map seen_kept call.entry.kept.items) (map seen_value entries.entry.items) ∷ []),
       rest,
     )) }
 {
@@ -155,7 +156,7 @@ pub fn statepoint<'a>(cursor: &mut Cursor<'_, 'a>, alloc: Global) -> Result<Read
     let id = statepoint_id(cursor)?;
     let function_type = callee_type(cursor, alloc)?;
     let (callee, count) = callee_count(cursor)?;
-    let (passed, live) = point_end(cursor, alloc)?;
+    let (passed, (kept, live)) = point_end(cursor, alloc)?;
     if !takes_own(
         callee.bytes,
         function_type.parameters.as_slice(),
@@ -169,6 +170,7 @@ pub fn statepoint<'a>(cursor: &mut Cursor<'_, 'a>, alloc: Global) -> Result<Read
         callee,
         count,
         passed,
+        kept,
     };
     boxed(alloc, result, call, live)
 }

@@ -9,6 +9,7 @@ mod families;
 mod forms;
 mod groups;
 mod heads;
+mod kept;
 mod laws;
 mod lines;
 mod opening;
@@ -17,6 +18,7 @@ mod results;
 
 pub use bundles::LiveEntries;
 pub use forms::{DroppedLine, Form};
+pub use kept::{Kept, KeptEntry};
 pub use laws::{one_form, one_reading, own_form};
 pub use lines::{kept_front, whole_dropped};
 pub use opening::opened_form;

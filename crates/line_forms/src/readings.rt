@@ -1,6 +1,7 @@
 //! What lines say, by their forms.
 
 use crate::bundles::LiveEntries;
+use crate::kept::Kept;
 use ir_ast::Pred;
 use line_parts::{AllPassed, Arguments, Entries, Fields, Parameters, TypeWord, Value};
 use line_tokens::{Binary, Cast, Conversion, Literal, Width};
@@ -23,6 +24,7 @@ pub struct StatepointCall<'a> {
     /// How many arguments the line says that there are.
     pub count: Literal,
     pub passed: AllPassed<'a>,
+    pub kept: Kept<'a>,
 }
 
 /// What a line says. Names stand without their mark, and are slices of the text.
@@ -120,17 +122,19 @@ pub enum Reading<'a> {
         value: Value<'a>,
         address: Value<'a>,
     },
-    /// `%x = call T @f(T V, ..)`
+    /// `%x = call T @f(T V, ..) [ "deopt"(T V, ..) ]`
     ValueCall {
         result: Name<'a>,
         answer: TypeWord,
         callee: Name<'a>,
         passed: AllPassed<'a>,
+        kept: Kept<'a>,
     },
-    /// `call void @f(T V, ..)`
+    /// `call void @f(T V, ..) [ "deopt"(T V, ..) ]`
     VoidCall {
         callee: Name<'a>,
         passed: AllPassed<'a>,
+        kept: Kept<'a>,
     },
     /// `br label %l`
     Jump {
@@ -174,7 +178,7 @@ pub enum Reading<'a> {
         to: TypeWord,
     },
     /// `%t = call token (..) @llvm.experimental.gc.statepoint.p0(i64 ID, i32 0, ptr elementtype(R (A, ..)) @f, i32 C,
-    /// i32 0, T V, .., i32 0, i32 0) [ "gc-live"(P V, ..) ]`, with the live entries, in the rewritten form
+    /// i32 0, T V, .., i32 0, i32 0) [ "deopt"(T V, ..), "gc-live"(P V, ..) ]`, with the live entries, in the rewritten form
     Statepoint {
         result: Name<'a>,
         call: Box<StatepointCall<'a>>,

@@ -9,10 +9,10 @@ use Rattle.line_tokens.specs.declared.words.Dropped.TheVariants as drops
 use Rattle.line_parts.specs.Types.{TypeWord}
 use Rattle.line_parts.specs.Types as types
 use Rattle.line_parts.specs.Gives.{Found, Stops, after, one_at, with_rest, noted, one_noted_at}
-use Rattle.line_parts.specs.Groups.{live_entry_at}
+use Rattle.line_parts.specs.Bundles.{kept_entry_at, live_entry_at}
 use Rattle.line_tokens.specs.Marks.{is_word, is_mark, begins}
 use Rattle.line_parts.specs.Drops.{past, past_all}
-use Rattle.line_parts.specs.Parts.{addrspace_at, pointer_at, type_behind, other_type_at, spelled_type_at, allowed_type_at, is_managed, value_at, name_if_any}
+use Rattle.line_parts.specs.Parts.{addrspace_at, pointer_at, type_behind, other_type_at, spelled_type_at, allowed_type_at, is_value_type, is_managed, value_at, name_if_any}
 use Rattle.line_tokens.specs.Numbers.{width_of, width_passes}
 use Rattle.line_parts.specs.Lists.{at_most_at, listed_at, is_argument_type, argument_at, given_behind, passed_at, entry_at}
 use Rattle.line_parts.proofs.Dropping.{past-le, past_all-le}
@@ -234,7 +234,12 @@ pub reached_stop : {A : Type 0} (element : List Tok → Found A) (more : List To
 reached_stop element more all front ts stops.NoReading so_far stopped = reached_none element more all front ts so_far stopped
 reached_stop element more all front ts stops.Memory so_far stopped = tt
 
--- a live entry takes at least one token
+-- an entry of a bundle takes at least one token
 pub live_entry_at-shorter : (ts : List Tok) → Shorter (count ts) (live_entry_at ts)
 unfolding live_entry_at
 live_entry_at-shorter ts = after-shorter (count ts) _ _ (allowed_type_at-shorter is_managed ts) (λ _ r lt. value_next (count ts) r lt)
+
+pub kept_entry_at-shorter : (ts : List Tok) → Shorter (count ts) (kept_entry_at ts)
+unfolding kept_entry_at
+kept_entry_at-shorter ts = after-shorter (count ts) _ _ (allowed_type_at-shorter is_value_type ts)
+    (λ ty r lt. after-shorter (count ts) _ _ (value_next (count ts) r lt) (λ value r1 l1. l1))

@@ -1,9 +1,7 @@
 -- A line has no more tokens than bytes.
-use Rattle.std.proofs.Common.{◌≡◌, refl, ℕ, zero, suc, ◌-◌, ◌≤◌, Bool, true, false, cond, eqb, List, [], ◌∷◌, length, Option, Some, None, arith}
-use Rattle.sp_text.specs.Bytes.{is_blank, semicolon}
+use Rattle.std.proofs.Common.{◌≡◌, refl, ℕ, suc, ◌≤◌, Bool, true, false, cond, List, [], ◌∷◌, length, Option, Some, None, arith}
 use Rattle.sp_text.specs.declared.tokens.Kind.{Kind}
-use Rattle.sp_text.specs.Tokens.{Tok, front_of, front_and_more, tokens_after, tokens}
-use Rattle.sp_text.proofs.Spelled.{length-tokens, length-tokens_after}
+use Rattle.sp_text.specs.Tokens.{Tok, front_and_more, tokens_after, tokens}
 
 fronts : (found : Option (Kind × ℕ)) (bs : List ℕ) (more : ℕ → List Tok) (n : ℕ) → ((len : ℕ) → length (more len) ≤ n) → length (front_and_more found bs more) ≤ suc n
 fronts None bs more n le = omega arith

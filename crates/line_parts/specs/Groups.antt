@@ -1,4 +1,4 @@
--- The parts of lines of statepoint groups: numbers, what a statepoint takes, its live entries, results, declarations.
+-- The parts of lines of statepoint groups: numbers, what a statepoint takes, results, declarations.
 use Rattle.std.specs.Prelude.{ℕ, Bool, true, false, ◌&&◌, ◌||◌, not, List, [], ◌∷◌, Option, Some, None, is_some, option_map, codes, if◌then◌else◌}
 use Rattle.std.specs.List.{list_all}
 use Rattle.std.specs.Str.{bytes_eq}
@@ -11,7 +11,7 @@ use Rattle.line_tokens.specs.declared.words.Dropped.TheVariants as drops
 use Rattle.line_parts.specs.Gives.{Found, after, one_at}
 use Rattle.line_tokens.specs.Marks.{is_mark, is_word, global_of, stands, begins}
 use Rattle.line_parts.specs.Drops.{after_bracket, past_all, past}
-use Rattle.line_parts.specs.Parts.{Val, word_at, mark_at, local_at, global_at, literal_at, value_at, allowed_type_at, is_value_type, is_answer_type, is_managed}
+use Rattle.line_parts.specs.Parts.{word_at, mark_at, local_at, global_at, literal_at, allowed_type_at, is_value_type, is_answer_type}
 use Rattle.line_parts.specs.Lists.{Given, function, comma, list_to, listed_at, is_argument_type, is_task_start, passed_at}
 use Rattle.line_tokens.specs.Families.{is_family_name, is_result_of}
 
@@ -63,26 +63,6 @@ is_value_given _ = true
 -- `ptr` stands in the type and among the arguments of `task_start` alone
 abbrev pub takes_own : List ℕ → List TypeWord → List Given → Bool
 takes_own callee parameters passed = is_task_start callee || (list_all (is_argument_type false) parameters && list_all is_value_given passed)
-
--- ---- live entries
-
--- `P V`
-unfoldable pub live_entry_at : List Tok → Found Val
-live_entry_at ts = after (allowed_type_at is_managed ts) (λ _ ts. value_at ts)
-
-abbrev pub is_live_tag : Tok → Bool
-is_live_tag (tok kinds.Quoted bytes) = bytes_eq bytes (codes "\"gc-live\"")
-is_live_tag _ = false
-
--- `[ "gc-live"(P V, ..) ]`
-unfoldable pub bundle_at : List Tok → Found (List Val)
-bundle_at ts = after (mark_at (codes "[") ts) (λ _ ts. after (one_at (stands is_live_tag) ts) (λ _ ts. after (mark_at (codes "(") ts) (λ _ ts.
-    after (list_to live_entry_at (codes ")") ts) (λ live ts. after (mark_at (codes ")") ts) (λ _ ts. after (mark_at (codes "]") ts) (λ _ ts.
-    Some (live, ts)))))))
-
--- the live entries: none, where no bundle stands there
-unfoldable pub live_at : List Tok → Found (List Val)
-live_at ts = if begins (is_mark (codes "[")) ts then bundle_at ts else Some ([], ts)
 
 -- ---- results
 

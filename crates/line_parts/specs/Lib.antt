@@ -1,3 +1,4 @@
+pub mod Bundles
 pub mod Drops
 pub mod Gives
 pub mod Groups

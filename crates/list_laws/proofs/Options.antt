@@ -20,3 +20,7 @@ inner_some x (Some o) is = ap (λ p. Some p) is
 pub on_ok : {A E : Type 0} (r : Result A E) (P Q : Type 0) → (P → Q) → OnOk r P → OnOk r Q
 on_ok (Ok x) P Q to holds = to holds
 on_ok (Err e) P Q to holds = tt
+
+pub always_ok : {A E : Type 0} (r : Result A E) (P : Type 0) → P → OnOk r P
+always_ok (Ok x) P holds = holds
+always_ok (Err e) P holds = tt

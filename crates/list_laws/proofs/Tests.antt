@@ -1,8 +1,9 @@
 -- What a test says of the elements of a list.
 use Rattle.std.proofs.Common.{◌≡◌, ◌∙◌, inl, inr, ℕ, zero, suc, ◌+◌, Bool, true, false, List, [], ◌∷◌, ◌++◌, map, length, take, set, get_or, refl, ap, sym, arith, Some, slice_get}
-use Rattle.std.specs.Prelude.{◌||◌, cond, not}
-use Rattle.std.specs.List.{Contains, count_by, list_all, list_any, position, prefix_len}
-use Rattle.std.proofs.lemmas.Bool.{false≢true, and_parts, cases_Bool, or_cases, or_left, or_right}
+use Rattle.std.specs.Prelude.{◌||◌, ◌≤◌, cond, ltb, not}
+use Rattle.std.specs.List.{Contains, count_by, list_all, list_any, position, position_or_len, prefix_len}
+use Rattle.std.specs.Option.{option_map_or}
+use Rattle.std.proofs.lemmas.Bool.{false≢true, and_parts, cases_Bool, ltb-true, or_cases, or_left, or_right}
 use Rattle.std.proofs.lemmas.List.{length-map}
 use Rattle.std.proofs.lemmas.List.Folds.{list_any_at}
 use Rattle.std.proofs.lemmas.List.Sums.{sum_by-set}
@@ -99,3 +100,10 @@ same_marks (mark ∷ marks) (other ∷ others) size there back =
 pub any_append : {A : Type 0} (p : A → Bool) (one other : List A) → list_any p (one ++ other) ≡ (list_any p one || list_any p other)
 any_append p [] other = refl
 any_append p (x ∷ one) other = ap (λ (t : Bool). p x || t) (any_append p one other) ∙ sym (or_assoc (p x) (list_any p one) (list_any p other))
+
+-- behind the first element that passes
+pub position_within : {A : Type 0} (test : A → Bool) (xs : List A) → option_map_or (λ place. place + 1) (position test xs) 0 ≤ length xs
+position_within test xs = elim (cases_Bool (ltb (position_or_len test xs) (length xs))) [
+  | inl within ↦ rw within (let below = ltb-true (position_or_len test xs) (length xs) within in omega arith)
+  | inr past ↦ rw past (omega arith)
+]

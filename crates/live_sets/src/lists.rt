@@ -6,7 +6,6 @@ ghost use Rattle.std.specs.List.Sorted.{IsStrictlySortedBy};
 ghost use Rattle.std.specs.Ordering.{nat_cmp};
 ghost use Rattle.std.specs.Option.{option_map};
 ghost use Rattle.ir_ast.specs.Formed.{IsFormed};
-ghost use Rattle.ir_ast.specs.Callees.{is_leaf};
 ghost use Rattle.ir_ast.specs.Types.{is_pointer};
 ghost use Rattle.ir_ast.specs.Values.{value_types};
 ghost use Rattle.ir_cfg.specs.Graphs.{graph_of};
@@ -25,7 +24,7 @@ use crate::numbers::{after, first_numbers};
 use crate::pointer_sets::PointerSet;
 use crate::uses::{go_back, put, put_bundle};
 use crate::values::{is_marked, pointer_marks};
-use ir_ast::{BaseTable, Callee, Func, Inst, LiveTable, Op, Operand};
+use ir_ast::{BaseTable, Func, Inst, LiveTable, Op, Operand};
 use ir_cfg::Cfg;
 use sp_ids::{Memory, ValueId};
 use std::alloc::Global;
@@ -162,7 +161,7 @@ fn is_call(op: &Op) -> bool
     ensures { result ≡ is_call op.now }
 {
     match op {
-        Op::Call { callee, .. } => !is_leaf(*callee),
+        Op::Call { callee, .. } => !callee.is_leaf(),
         Op::Add
         | Op::Sub
         | Op::Mul
@@ -193,15 +192,6 @@ fn is_call(op: &Op) -> bool
         | Op::Switch
         | Op::Ret
         | Op::Unreachable => false,
-    }
-}
-
-fn is_leaf(callee: Callee) -> bool
-    ensures { result ≡ is_leaf callee }
-{
-    match callee {
-        Callee::Print | Callee::Read | Callee::Check | Callee::Same => true,
-        Callee::Fun(_) | Callee::New(_) | Callee::TaskStart | Callee::Poll => false,
     }
 }
 

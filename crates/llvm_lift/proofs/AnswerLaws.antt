@@ -25,8 +25,8 @@ profile_is_left text content (Err refusals.TooLong) stands (inr outside) = absur
 profile_is_left text content (Err refusals.Memory) stands answers = refl
 
 pub shown_is_left : ShownIsLeft
-shown_is_left content answer is bare small answers =
-    profile_is_left (text_of content) content answer (printed_stands Source content is bare small) answers
+shown_is_left content answer is small answers =
+    profile_is_left (text_of content) content answer (printed_stands Source content is small) answers
 
 -- the printed text of a module that an accepted text stands for
 abbrev typed : (form : Form) (text out : List ℕ) → length text ≤ 16777216 → length out ≤ 16777216 → IsPrinted form text out → IsReadAndTyped out
@@ -35,8 +35,8 @@ typed form text out within small printed =
     record {
       form = form;
       content = printed.content;
-      is_module = is.0;
-      stands = subst (λ it. StandsFor form it printed.content) (sym printed.is) (printed_stands form printed.content is.0 is.1 (subst (λ it. length it ≤ 16777216) printed.is small));
+      is_module = is;
+      stands = subst (λ it. StandsFor form it printed.content) (sym printed.is) (printed_stands form printed.content is (subst (λ it. length it ≤ 16777216) printed.is small));
       is = printed.is;
     }
 

@@ -1,10 +1,8 @@
 -- What a text that stands for a module is not, and that it stands for one alone.
 use Rattle.std.proofs.Common.{◌≡◌, refl, sym, ap, ◌∙◌, subst, ◌≤◌, ℕ, List, length, Ok, Err}
 use Rattle.std.specs.Prelude.{Result}
-use Rattle.std.specs.List.{All}
 use Rattle.ir_ast.specs.declared.modules.Form.{Form}
 use Rattle.ir_ast.specs.declared.modules.Form.TheVariants.{Source, Rewritten}
-use Rattle.ir_ast.specs.Bundles.{HasNoBundle}
 use Rattle.ir_ast.specs.Modules.{ModuleContent}
 use Rattle.ir_cfg.specs.TypedModules.{IsModuleOf}
 use Rattle.ir_lines.specs.Statements.{lines_of}
@@ -37,10 +35,10 @@ faulty_is_none form text line code (untyped readings found reads least) content 
     stands.faultless line found (subst (λ (it : List Numbered). HasTextFault form (lines_of it) line found) (sym same) least.is)
 
 -- the printed text of a module of a form stands for it
-pub printed_stands : (form : Form) (content : ModuleContent) → IsModuleOf form content → All HasNoBundle content.funcs
-    → length (text_of content) ≤ 16777216 → StandsFor form (text_of content) content
-printed_stands form content is bare small =
-    let back = reads_back form content is bare small in
+pub printed_stands : (form : Form) (content : ModuleContent) → IsModuleOf form content → length (text_of content) ≤ 16777216
+    → StandsFor form (text_of content) content
+printed_stands form content is small =
+    let back = reads_back form content is small in
     let own : StandsFor content.form (text_of content) content = record {
       readings = back.readings;
       reads = back.reads;
@@ -51,6 +49,6 @@ printed_stands form content is bare small =
 
 -- what a text stands for is a module of its form
 pub stands_for_module : (form : Form) (text : List ℕ) (content : ModuleContent) → length text ≤ 16777216 → StandsFor form text content
-    → IsModuleOf form content × All HasNoBundle content.funcs
+    → IsModuleOf form content
 stands_for_module form text content small stands =
-    subst (λ (it : ModuleContent). IsModuleOf form it × All HasNoBundle it.funcs) stands.is (accepted_is_of form text stands.readings small stands.reads stands.faultless)
+    subst (IsModuleOf form) stands.is (accepted_is_of form text stands.readings small stands.reads stands.faultless)

@@ -1,9 +1,7 @@
 -- What is known of each answer.
 use Rattle.std.specs.Prelude.{◌≡◌, ◌≤◌, ℕ, List, length, Result, Ok, Err}
-use Rattle.std.specs.List.{All}
 use Rattle.ir_ast.specs.declared.modules.Form.{Form}
 use Rattle.ir_ast.specs.declared.modules.Form.TheVariants.{Source}
-use Rattle.ir_ast.specs.Bundles.{HasNoBundle}
 use Rattle.ir_ast.specs.Modules.{ModuleContent}
 use Rattle.ir_cfg.specs.TypedModules.{IsModuleOf}
 use Rattle.ir_printer.specs.Texts.{text_of}
@@ -25,7 +23,7 @@ ProfileIsLeft = (text : List ℕ) (content : ModuleContent) (answer : Result (Li
 -- What `show` writes of a source module comes out as it went in.
 abbrev pub ShownIsLeft : Type 0
 ShownIsLeft = (content : ModuleContent) (answer : Result (List ℕ) Refusal)
-    → IsModuleOf Source content → All HasNoBundle content.funcs → length (text_of content) ≤ 16777216
+    → IsModuleOf Source content → length (text_of content) ≤ 16777216
     → Answers (λ given. given) (text_of content) answer → IsAnswer (text_of content) answer
 
 -- an answer is the printed text of a module of its form, for which it stands

@@ -12,6 +12,7 @@ use Rattle.object_meaning.specs.Lines.{registers_of, first_register, register_co
 use Rattle.frame_forms.specs.CodeAddresses.{next_start}
 use Rattle.frame_forms.specs.FrameSizes.{frame_words}
 use Rattle.frame_forms.specs.ModuleLayouts.{FunctionLayout, laid_from, frame_bytes_in, address_in}
+use Rattle.frame_forms.proofs.LayoutLemmas.{length-laid_from}
 use Rattle.machine_meaning.specs.Code.{place_before, code_address, words_in}
 use Rattle.machine_frames.specs.Tables.{Tabled, befores_from, before_in, table_of, IsSmallFunction, AreOf}
 
@@ -86,10 +87,6 @@ all_push P [] x all here (suc k) d l = absurd (omega arith)
 all_push P (y ∷ ys) x all here zero d l = all 0 y (omega arith)
 all_push P (y ∷ ys) x all here (suc k) d l = all_push P ys x (λ i e m. all (suc i) e (omega arith)) here k d (omega arith)
 
-laid_count : (start : ℕ) (funcs : List Function) → length (laid_from start funcs) ≡ length funcs
-laid_count start [] = refl
-laid_count start (one ∷ funcs) = ap suc (laid_count (next_start start one) funcs)
-
 pub small_contents : (funcs : List LinedFunction) → All (λ func. IsSmallFunction func.content) funcs → All IsSmallFunction (map content_of funcs)
 small_contents [] all k d l = absurd (omega arith)
 small_contents (func ∷ funcs) all zero d l = all 0 func (omega arith)
@@ -138,7 +135,7 @@ near_is content laid tables func block place table are is here =
     let before = before_is content laid tables func block table are is in
     let among : func < length tables = slice_get_within tables func table is in
     let count = ap length are.tables_are ∙ length-map content.funcs table_of in
-    let laid_all = ap length are.laid_is ∙ laid_count 4096 content.funcs in
+    let laid_all = ap length are.laid_is ∙ length-laid_from 4096 content.funcs in
     let small = place_within content.funcs func block place are.small here in
     let start = ap (λ (l : List FunctionLayout). address_in l func) are.laid_is in
     let near = starts_near 4096 content.funcs func are.small in
@@ -181,5 +178,5 @@ words_are content laid tables func are = ap (λ (l : List FunctionLayout). frame
 pub no_words : (content : ModuleContent) (laid : List FunctionLayout) (tables : List Tabled) (func : ℕ) → AreOf content laid tables
     → length laid ≤ func → words_in content func ≡ 0
 no_words content laid tables func are past =
-    let count : length content.funcs ≤ func = omega (arith, ap length are.laid_is, laid_count 4096 content.funcs) in
+    let count : length content.funcs ≤ func = omega (arith, ap length are.laid_is, length-laid_from 4096 content.funcs) in
     ap (λ (found : Option Function). option_map_or frame_words found 0) (slice_get_past content.funcs func count)

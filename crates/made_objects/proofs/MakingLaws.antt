@@ -9,7 +9,7 @@ use Rattle.tool_io.specs.Counts.{raised}
 use Rattle.sp_ids.specs.declared.ends.End.{End}
 use Rattle.ir_ast.specs.Layouts.{ObjectLayout}
 use Rattle.object_meaning.specs.Effects.{Effect, Progress, goes_on, prints, ends, after, printed_line}
-use Rattle.object_meaning.specs.Outcomes.{events_from, opening, proceeds}
+use Rattle.object_meaning.specs.Outcomes.{events_from, opening, proceeds, sizes_in}
 use Rattle.object_meaning.specs.Runs.{Go, Next, Reaches, End as Over, advance, goes}
 use Rattle.object_meaning.specs.States.{State, Setting}
 use Rattle.object_meaning.specs.Steps.{step}
@@ -17,7 +17,7 @@ use Rattle.object_meaning.specs.Traces.{Event, at_poll, at_new, done_at, events_
 use Rattle.object_meaning.proofs.RunLaws.{goes_over, not_over, same_over, traced_over, gone}
 use Rattle.object_meaning.proofs.SimulationLaws.{goes_on as goes_add}
 use Rattle.made_objects.specs.declared.makes.Made.{Made}
-use Rattle.made_objects.specs.Makings.{counted_from, makings, makings_from, sizes_in, sizes_made}
+use Rattle.made_objects.specs.Makings.{counted_from, makings, makings_from, sizes_made}
 use Rattle.made_objects.specs.Packed.{ArePacked, HaveRoom, IsFootprint, IsWhole}
 use Rattle.made_objects.specs.Runs.{HasMade, Makes, MakesAll, MakesLast}
 use Rattle.made_objects.specs.Statements.{IsMadeAtEvents, RunsMakeTheirObjects}

@@ -18,7 +18,7 @@ use Rattle.object_meaning.specs.Calls.{allocated, allocating, called, made}
 use Rattle.object_meaning.specs.Effects.{Effect, Progress, goes_on, prints, ends, after, printed_line}
 use Rattle.object_meaning.specs.Frames.{grouped, passed}
 use Rattle.object_meaning.specs.Lines.{Line}
-use Rattle.object_meaning.specs.Outcomes.{events_from, proceeds}
+use Rattle.object_meaning.specs.Outcomes.{events_from, proceeds, sizes_in}
 use Rattle.object_meaning.specs.Registers.{number_in, operand}
 use Rattle.object_meaning.specs.Runs.{Go, End as Over, goes}
 use Rattle.object_meaning.specs.States.{State, Setting}
@@ -26,7 +26,6 @@ use Rattle.object_meaning.specs.Steps.{acts, step, steps_at}
 use Rattle.object_meaning.specs.Tasks.{with_event}
 use Rattle.object_meaning.specs.Traces.{Event, at_poll, at_new, event_at, event_of, events_at}
 use Rattle.object_meaning.proofs.RunLaws.{goes_over, not_over, same_over, traced_over}
-use Rattle.made_objects.specs.Makings.{sizes_in}
 use Rattle.made_objects.specs.Statements.{IsRefused, new_count}
 use Rattle.made_objects.proofs.StepLaws.{EndsAt, GoesOn, Tells, step_tells}
 

@@ -35,7 +35,7 @@ use Rattle.object_meaning.specs.States.{Frame, State, Setting}
 use Rattle.object_meaning.specs.Steps.{acts, loading, returned, settled, step, steps_at, storing}
 use Rattle.object_meaning.specs.Tasks.{handed_over, started, switched, switched_to, with_event}
 use Rattle.object_meaning.specs.Traces.{Event, at_poll, at_new, event_at, event_of, events_at}
-use Rattle.made_objects.specs.Makings.{sizes_in}
+use Rattle.object_meaning.specs.Outcomes.{sizes_in}
 use Rattle.made_objects.specs.Packed.{IsFootprint}
 
 -- ---- what a step tells

@@ -1,8 +1,6 @@
 -- The objects that are made at events, each with its event and its footprint.
 use Rattle.std.specs.Prelude.{ℕ, List, [], ◌∷◌, map}
 use Rattle.tool_io.specs.Counts.{raised}
-use Rattle.ir_ast.specs.Layouts.{ObjectLayout}
-use Rattle.ir_ast.specs.Objects.{Object, footprint}
 use Rattle.object_meaning.specs.Traces.{Event, at_poll, at_new}
 use Rattle.made_objects.specs.declared.makes.Made.{Made}
 
@@ -22,10 +20,6 @@ makings events sizes = makings_from 0 events sizes
 abbrev pub counted_from : ℕ → List Event → ℕ
 counted_from before [] = before
 counted_from before (event ∷ events) = counted_from (raised before) events
-
--- the footprints of objects, by number
-abbrev pub sizes_in : List ObjectLayout → List Object → List ℕ
-sizes_in layouts objects = map (footprint layouts) objects
 
 abbrev pub sizes_made : List Made → List ℕ
 sizes_made made = map (λ one. one.footprint) made

@@ -3,12 +3,12 @@ use Rattle.std.specs.Prelude.{◌≡◌, ℕ, List, ◌++◌}
 use Rattle.sp_ids.specs.declared.ends.End.{End}
 use Rattle.ir_ast.specs.Layouts.{ObjectLayout}
 use Rattle.object_meaning.specs.Effects.{Progress}
-use Rattle.object_meaning.specs.Outcomes.{events_from, proceeds}
+use Rattle.object_meaning.specs.Outcomes.{events_from, proceeds, sizes_in}
 use Rattle.object_meaning.specs.Runs.{Go, Ends, Reaches}
 use Rattle.object_meaning.specs.States.{State, Setting}
 use Rattle.object_meaning.specs.Traces.{Event}
 use Rattle.made_objects.specs.declared.makes.Made.{Made}
-use Rattle.made_objects.specs.Makings.{counted_from, makings_from, sizes_in, sizes_made}
+use Rattle.made_objects.specs.Makings.{counted_from, makings_from, sizes_made}
 use Rattle.made_objects.specs.Packed.{HaveRoom}
 
 -- from one state to another these objects were made, at these events; whatever comes later comes behind them

@@ -3,10 +3,10 @@ use Rattle.std.specs.Prelude.{◌≡◌, ◌⊎◌, ℕ, ◌+◌, ◌-◌, ◌^�
 use Rattle.sp_ids.specs.declared.ends.End.{End}
 use Rattle.sp_ids.specs.declared.ends.End.TheVariants.{Trap}
 use Rattle.sp_ids.specs.declared.ends.Trap.TheVariants.{Count, Full}
-use Rattle.object_meaning.specs.Outcomes.{Gives, Outcome}
+use Rattle.object_meaning.specs.Outcomes.{Gives, Outcome, sizes_in}
 use Rattle.object_meaning.specs.States.{Setting}
 use Rattle.object_meaning.specs.Traces.{Event, at_new, at_poll}
-use Rattle.made_objects.specs.Makings.{makings, sizes_in, sizes_made}
+use Rattle.made_objects.specs.Makings.{makings, sizes_made}
 use Rattle.made_objects.specs.Packed.{ArePacked}
 
 -- how many of these events are new objects

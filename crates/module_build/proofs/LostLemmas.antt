@@ -21,6 +21,13 @@ pub uses-append : (names : List (List ℕ)) (lost : Lost) (xs ys : List (Val × 
 uses-append names lost [] ys = refl
 uses-append names lost (x ∷ xs) ys = uses-append names (after_uses names lost (x ∷ [])) xs ys
 
+-- uses behind others
+pub uses-more : (names : List (List ℕ)) (start lost new : Lost) (xs ys more : List (Val × TypeWord)) → more ≡ ys
+    → lost ≡ after_uses names start xs → new ≡ after_uses names lost more → new ≡ after_uses names start (xs ++ ys)
+uses-more names start lost new xs ys more same so_far now =
+    now ∙ ap (λ (used : List (Val × TypeWord)). after_uses names lost used) same
+    ∙ ap (λ (one : Lost). after_uses names one ys) so_far ∙ sym (uses-append names start xs ys)
+
 -- ---- names
 
 pub names-any : (names : List (List ℕ)) (unknown : Bool) (wanted : List (List ℕ))

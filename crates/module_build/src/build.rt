@@ -1,17 +1,18 @@
 //! The instructions that lines stand for, and what lines lose.
 
-ghost use Rattle.std.specs.Prelude.{◌≡◌, [], ◌∷◌, ◌++◌, map, filter_map, not, option_map, option_to_list, drop, IfOk, OnOk};
+ghost use Rattle.std.specs.Prelude.{◌≡◌, [], ◌∷◌, ◌++◌, map, filter_map, not, option_map, option_to_list, drop, if◌then◌else◌, IfOk, OnOk};
 ghost use Rattle.std.specs.Option.{option_copied};
 ghost use Rattle.ir_ast.specs.Rests.{labels_and_bundle};
 ghost use Rattle.line_parts.specs.Parts as values;
 ghost use Rattle.line_parts.specs.Types.{Int, Managed};
 ghost use Rattle.line_parts.specs.Seen.{seen_type, seen_value, seen_entry, seen_passed};
+ghost use Rattle.line_forms.specs.Seen.{seen_kept};
 ghost use Rattle.ir_lines.specs.Parts.{entry_use, live_use, token_type, token_use, index_use, passed_value, passed_function};
-ghost use Rattle.ir_lines.specs.Statements.{statepoint};
+ghost use Rattle.ir_lines.specs.Statements.{call, calling, is_leaf_name, statepoint};
 ghost use Rattle.ir_lines.specs.Places.{number_in};
 ghost use Rattle.ir_lines.specs.Types.{same_type};
 ghost use Rattle.ir_lines.specs.Views.{seen_guarded, said, seen_lines};
-ghost use Rattle.ir_lines.specs.Modules.{wrapped, used_operand, instruction, instruction_said, external_callee, callee_of, passed_operand, given_type, case_values, case_labels, element_of, entry_operand, entry_label, operand_in, label_in, type_of, binary_of, conversion_of, place_of};
+ghost use Rattle.ir_lines.specs.Modules.{wrapped, used_operand, kept_entry, instruction, keeping, instruction_said, external_callee, callee_of, passed_operand, given_type, case_values, case_labels, element_of, entry_operand, entry_label, operand_in, label_in, type_of, binary_of, conversion_of, place_of};
 ghost use Rattle.ir_resolve.specs.TextFaults.{is_below_zero};
 ghost use Rattle.module_build.specs.Known.{known_in};
 ghost use Rattle.module_build.specs.Lost.{tables_in, after_uses, after_named, after_spelling, after_line, fits_in, call_fits};
@@ -26,8 +27,8 @@ use ir_lines::operands::{binary_of, conversion_of, element_of, passed_type, type
 use ir_lines::parts::TOKEN;
 use ir_lines::scope::Local;
 use ir_reader::{
-    Binary, Conversion, Entry, Literal, NumberedReading, Passed, Reading, StatepointCall, TypeWord,
-    Value, Width,
+    Binary, Conversion, Entry, KeptEntry, Literal, NumberedReading, Passed, Reading,
+    StatepointCall, TypeWord, Value, Width,
 };
 use smallvec::SmallVec;
 use sp_ids::{BlockId, FuncId, Memory};
@@ -525,6 +526,23 @@ fn case(local: &Local, width: Width, value: &Value, to: &[u8], lost: &mut Lost)
     label(local, to, lost);
 }
 
+// Whether it is the name of an external that reaches no safepoint.
+fn is_leaf(name: &[u8]) -> bool
+    ensures { result ≡ is_leaf_name name.now }
+{
+    is_text(name, b"print_i64")
+        || is_text(name, b"read_i64")
+        || is_text(name, b"gc_check")
+        || is_text(name, b"gc_same")
+}
+
+// What a call keeps of its bundle: of a leaf nothing.
+fn kept_by<'k, 'a>(callee: &[u8], kept: &'k [KeptEntry<'a>]) -> &'k [KeptEntry<'a>]
+    ensures { map seen_kept result.now ≡ (if is_leaf_name callee.now then [] else map seen_kept kept.now) }
+{
+    if is_leaf(callee) { &[] } else { kept }
+}
+
 impl Scope<'_, '_, '_, '_> {
     fn layout(&self, name: &[u8], lost: &mut Lost) -> u32
         ensures layout { result ≡ number_in self.now.top.now.layouts name.now }
@@ -575,7 +593,58 @@ impl Scope<'_, '_, '_, '_> {
         }
     }
 
-    // A call that passes these.
+    // The entry of a bundle.
+    fn kept_entry(&self, one: &KeptEntry, lost: &mut Lost) -> (Ty, Operand)
+        ensures entry { result ≡ kept_entry (known_in self.now) (seen_kept one.now) }
+        ensures lost { lost.new ≡ after_uses self.now.local.now.values lost.old (seen_kept one.now ∷ []) }
+    {
+        let operand = operand(self.local, one.ty, &one.value, lost);
+        (type_of(one.ty), operand)
+    }
+
+    // The bundle of these entries. Where there is none, no memory is taken.
+    fn bundle(
+        &self,
+        alloc: Global,
+        kept: &[KeptEntry],
+        lost: &mut Lost,
+    ) -> Result<Vec<(Ty, Operand)>, Memory>
+        ensures made { IfOk result (λ made. made.items ≡ map (kept_entry (known_in self.now)) (map seen_kept kept.now)) }
+        ensures lost { OnOk result (lost.new ≡ after_uses self.now.local.now.values lost.old (map seen_kept kept.now)) }
+    {
+        let mut bundle = Vec::new(alloc);
+        for one in kept {
+            bundle.push(self.kept_entry(one, lost))?;
+        }
+        Ok(bundle)
+    }
+
+    // The call with these operands and this bundle.
+    fn called(
+        &self,
+        alloc: Global,
+        name: Option<&[u8]>,
+        answer: TypeWord,
+        callee: &[u8],
+        passed: &[Passed],
+        operands: Operands,
+        bundle: Vec<(Ty, Operand)>,
+        insts: &mut Vec<Inst>,
+    ) -> Result<(), Memory>
+        ensures insts { OnOk result (insts.new.items ≡ insts.old.items ++ (keeping bundle.items (instruction (option_copied name.entry)
+            (Op.Call (callee_of (known_in self.now) callee.now) (map given_type (map seen_passed passed.now))) (type_of (seen_type answer)) operands.items [])) ∷ []) }
+    {
+        let op = Op::Call {
+            callee: self.callee(callee),
+            types: types_of(alloc, passed)?,
+        };
+        let name = named(alloc, name)?;
+        let rest = Rest::of(alloc, &[], bundle)?;
+        insts.push(Inst::of(name, op, type_of(answer), operands, rest))?;
+        Ok(())
+    }
+
+    // A call that passes these, with what it keeps of these.
     fn call(
         &self,
         alloc: Global,
@@ -583,25 +652,19 @@ impl Scope<'_, '_, '_, '_> {
         answer: TypeWord,
         callee: &[u8],
         passed: &[Passed],
+        kept: &[KeptEntry],
         insts: &mut Vec<Inst>,
         lost: &mut Lost,
     ) -> Result<(), Memory>
-        ensures insts { OnOk result (insts.new.items ≡ insts.old.items ++ (instruction (option_copied name.entry)
-            (Op.Call (callee_of (known_in self.now) callee.now) (map given_type (map seen_passed passed.now))) (type_of (seen_type answer))
-            (map (passed_operand (known_in self.now)) (map seen_passed passed.now)) []) ∷ []) }
-        ensures lost { OnOk result (lost.new ≡ after_spelling (not (call_fits self.now.form (tables_in self.now) (seen_type answer) callee.now (map seen_passed passed.now)))
-            (after_named self.now.top.now.heads (callee.now ∷ filter_map passed_function (map seen_passed passed.now))
-            (after_uses self.now.local.now.values lost.old (filter_map passed_value (map seen_passed passed.now))))) }
+        ensures insts { OnOk result (insts.new.items ≡ insts.old.items ++ option_to_list (instruction_said (known_in self.now) []
+            (call (option_copied name.entry) (calling (seen_type answer) callee.now (map seen_passed passed.now) (map seen_kept kept.now))))) }
+        ensures lost { OnOk result (lost.new ≡ after_line self.now.form (tables_in self.now) lost.old
+            (call (option_copied name.entry) (calling (seen_type answer) callee.now (map seen_passed passed.now) (map seen_kept kept.now)))) }
     {
         let operands = self.passed_operands(alloc, passed, lost)?;
+        let bundle = self.bundle(alloc, kept_by(callee, kept), lost)?;
         self.note_call(answer, callee, passed, lost);
-        let op = Op::Call {
-            callee: self.callee(callee),
-            types: types_of(alloc, passed)?,
-        };
-        let name = named(alloc, name)?;
-        insts.push(Inst::of(name, op, type_of(answer), operands, Rest::nothing()))?;
-        Ok(())
+        self.called(alloc, name, answer, callee, passed, operands, bundle, insts)
     }
 
     // The instruction of a conversion from or to pointers, which no module has: a call that passes nothing keeps its
@@ -695,18 +758,19 @@ impl Scope<'_, '_, '_, '_> {
         Ok(operands)
     }
 
-    // The statepoint with these operands.
+    // The statepoint with these operands and this bundle.
     fn guarded(
         &self,
         alloc: Global,
         name: &[u8],
         call: &StatepointCall,
         operands: Operands,
+        bundle: Vec<(Ty, Operand)>,
         insts: &mut Vec<Inst>,
     ) -> Result<(), Memory>
-        ensures insts { OnOk result (insts.new.items ≡ insts.old.items ++ (instruction (Some name.now)
+        ensures insts { OnOk result (insts.new.items ≡ insts.old.items ++ (keeping bundle.items (instruction (Some name.now)
             (Op.Statepoint (wrapped 64 (seen_guarded call.now).id) (callee_of (known_in self.now) (seen_guarded call.now).callee)
-            (map given_type (seen_guarded call.now).passed)) (type_of (seen_guarded call.now).signature.answer) operands.items []) ∷ []) }
+            (map given_type (seen_guarded call.now).passed)) (type_of (seen_guarded call.now).signature.answer) operands.items [])) ∷ []) }
     {
         let op = Op::Statepoint {
             id: wrapped(64, call.id),
@@ -715,7 +779,8 @@ impl Scope<'_, '_, '_, '_> {
         };
         let ty = type_of(call.function_type.answer);
         let name = owned(alloc, name)?;
-        insts.push(Inst::of(Some(name), op, ty, operands, Rest::nothing()))?;
+        let rest = Rest::of(alloc, &[], bundle)?;
+        insts.push(Inst::of(Some(name), op, ty, operands, rest))?;
         Ok(())
     }
 
@@ -734,8 +799,9 @@ impl Scope<'_, '_, '_, '_> {
             ≡ after_line self.now.form (tables_in self.now) lost.old (statepoint name.now (seen_guarded call.now) (map seen_value live.now))) }
     {
         let operands = self.statepoint_operands(alloc, call.passed.as_slice(), live, lost)?;
+        let bundle = self.bundle(alloc, call.kept.as_slice(), lost)?;
         self.note_statepoint(call, lost);
-        self.guarded(alloc, name, call, operands, insts)
+        self.guarded(alloc, name, call, operands, bundle, insts)
     }
 
     /// Adds the instruction of a line behind the others, where it is one; a `switch` has the cases that stand behind it.
@@ -885,26 +951,31 @@ impl Scope<'_, '_, '_, '_> {
                 answer,
                 callee,
                 passed,
+                kept,
             } => self.call(
                 alloc,
                 Some(result.bytes),
                 *answer,
                 callee.bytes,
                 passed.as_slice(),
+                kept.as_slice(),
                 insts,
                 lost,
             ),
-            Reading::VoidCall { callee, passed } => {
-                self.call(
-                    alloc,
-                    None,
-                    TypeWord::Void,
-                    callee.bytes,
-                    passed.as_slice(),
-                    insts,
-                    lost,
-                )
-            }
+            Reading::VoidCall {
+                callee,
+                passed,
+                kept,
+            } => self.call(
+                alloc,
+                None,
+                TypeWord::Void,
+                callee.bytes,
+                passed.as_slice(),
+                kept.as_slice(),
+                insts,
+                lost,
+            ),
             Reading::Jump { label } => jump(local, alloc, label.bytes, insts, lost),
             Reading::Branch {
                 condition,

@@ -12,13 +12,14 @@ use Rattle.line_parts.specs.Gives.{Found, after, one_at, with_rest, noted, one_n
 use Rattle.line_tokens.specs.declared.words.Dropped.TheVariants as drops
 use Rattle.line_tokens.specs.declared.literals.Literal.{Literal}
 use Rattle.line_tokens.specs.Families.{is_result_of}
+use Rattle.line_parts.specs.Bundles.{is_deopt_tag, kept_entry_at, bundle_at, deopt_bundle_at, live_bundle_at, bracketed_at, deopt_at, live_behind_at, some_bundles_at, bundles_at}
 use Rattle.line_parts.specs.Groups.{begins_argument, handed_at, suffix_of, named_result, result_at}
-use Rattle.line_tokens.specs.Marks.{is_mark, is_word, local_of, global_of, begins}
+use Rattle.line_tokens.specs.Marks.{is_mark, is_word, local_of, global_of, begins, stands}
 use Rattle.line_tokens.specs.Numbers.{decimal, is_width, width_within, width_of, width_passes}
 use Rattle.line_parts.specs.Drops.{past, past_all}
 use Rattle.line_parts.specs.Parts.{Val, mark_at, name_if_any, global_at, width_at, value_at, addrspace_at, pointer_at, type_behind, spelled_type_at, allowed_type_at, case_value_at, is_value_type, is_answer_type, is_scalar_type, is_case_value}
 use Rattle.line_parts.specs.Lists.{Named, Given, given, function, at_most_at, listed_at, list_to, comma, is_argument_type, argument_at, arguments_at, is_task_start, head_at, given_behind, passed_at, all_passed_at, called_at, entry_at, begins_entry}
-use Rattle.line_forms.specs.Slots.{Item, Slot, part, parse, says, says_nothing, blank, m, w, g, dropped, a_managed, a_quoted, a_hash, to_brace, a_local, a_layout_name, a_width, a_type, an_answer, a_cast_type, a_value, a_case, a_pred, a_scalar, a_layout, a_place, some_fields, some_entries, a_declared, a_defined, a_called, a_strategy, a_zero, a_closing, a_family_answer, a_family, a_bracketing, a_token, a_global, some_types, some_handed, some_live, a_result, a_number}
+use Rattle.line_forms.specs.Slots.{Item, Slot, part, parse, says, says_nothing, blank, m, w, g, dropped, a_managed, a_quoted, a_hash, to_brace, a_local, a_layout_name, a_width, a_type, an_answer, a_cast_type, a_value, a_case, a_pred, a_scalar, a_layout, a_place, some_fields, some_entries, a_declared, a_defined, a_called, a_strategy, a_zero, a_closing, a_family_answer, a_family, a_bracketing, a_token, a_global, some_types, some_handed, some_deopt, some_bundles, a_result, a_number}
 use Rattle.line_forms.specs.Slots as items
 use Rattle.std.proofs.lemmas.Option.{same_Some}
 
@@ -335,6 +336,75 @@ result-type ts ty rest e =
     let b = went (global_at a.rest) (λ name end. named_result a.x (suffix_of a.x ts) name end) (ty, rest) a.more in
     tells-if (read_as is_value_type) (is_result_of (suffix_of a.x ts) b.x) a.x ty b.rest rest b.more (type-read is_value_type ts a.x a.rest a.is)
 
+-- ---- bundles
+
+-- the type of a value that a bundle spells
+abbrev pub is_kept : Val × TypeWord → Bool
+is_kept used = read_as is_value_type used.1
+
+entry-kept : (ts : List Tok) (one : Val × TypeWord) (rest : List Tok) → kept_entry_at ts ≡ Some (one, rest) → is_kept one ≡ true
+unfolding kept_entry_at
+entry-kept ts one rest e =
+    let a = went (allowed_type_at is_value_type ts) (λ ty ts. after (value_at ts) (λ value ts. Some ((value, ty), ts))) (one, rest) e in
+    let b = went (value_at a.rest) (λ value ts. Some ((value, a.x), ts)) (one, rest) a.more in
+    tells is_kept (b.x, a.x) one b.rest rest b.more (type-read is_value_type ts a.x a.rest a.is)
+
+bundle-kept : (ts : List Tok) (kept : List (Val × TypeWord)) (rest : List Tok) → deopt_bundle_at ts ≡ Some (kept, rest) → list_all is_kept kept ≡ true
+unfolding bundle_at
+bundle-kept ts kept rest e =
+    let a = went (one_at (stands is_deopt_tag) ts) (λ _ ts. after (mark_at (codes "(") ts) (λ _ ts.
+    after (list_to kept_entry_at (codes ")") ts) (λ entries ts. after (mark_at (codes ")") ts) (λ _ ts. Some (entries, ts))))) (kept, rest) e in
+    let b = went (mark_at (codes "(") a.rest) (λ _ ts.
+    after (list_to kept_entry_at (codes ")") ts) (λ entries ts. after (mark_at (codes ")") ts) (λ _ ts. Some (entries, ts)))) (kept, rest) a.more in
+    let c = went (list_to kept_entry_at (codes ")") b.rest) (λ entries ts. after (mark_at (codes ")") ts) (λ _ ts. Some (entries, ts))) (kept, rest) b.more in
+    let d = went (mark_at (codes ")") c.rest) (λ _ ts. Some (c.x, ts)) (kept, rest) c.more in
+    tells (list_all is_kept) c.x kept d.rest rest d.more (list-all is_kept kept_entry_at (codes ")") entry-kept b.rest c.x c.rest c.is)
+
+-- what passes a test inside brackets passes it
+in-brackets : {A : Type 0} (test : A → Bool) (inner : List Tok → Found A)
+    → ((ts : List Tok) (x : A) (rest : List Tok) → inner ts ≡ Some (x, rest) → test x ≡ true)
+    → (ts : List Tok) (x : A) (rest : List Tok) → bracketed_at inner ts ≡ Some (x, rest) → test x ≡ true
+unfolding bracketed_at
+in-brackets test inner passes ts x rest e =
+    let a = went (mark_at (codes "[") ts) (λ _ ts. after (inner ts) (λ said ts. after (mark_at (codes "]") ts) (λ _ ts. Some (said, ts)))) (x, rest) e in
+    let b = went (inner a.rest) (λ said ts. after (mark_at (codes "]") ts) (λ _ ts. Some (said, ts))) (x, rest) a.more in
+    let c = went (mark_at (codes "]") b.rest) (λ _ ts. Some (b.x, ts)) (x, rest) b.more in
+    tells test b.x x c.rest rest c.more (passes a.rest b.x b.rest b.is)
+
+-- brackets, or nothing
+maybe-brackets : {A : Type 0} (test : A → Bool) (inner : List Tok → Found A)
+    → ((ts : List Tok) (x : A) (rest : List Tok) → inner ts ≡ Some (x, rest) → test x ≡ true)
+    → (none : A) → test none ≡ true → (b : Bool) (ts : List Tok) (x : A) (rest : List Tok)
+    → (if b then bracketed_at inner ts else found none ts) ≡ Some (x, rest) → test x ≡ true
+maybe-brackets test inner passes none empty true ts x rest e = in-brackets test inner passes ts x rest e
+maybe-brackets test inner passes none empty false ts x rest e = tells test none x ts rest e empty
+
+deopt-kept : (ts : List Tok) (kept : List (Val × TypeWord)) (rest : List Tok) → deopt_at ts ≡ Some (kept, rest) → list_all is_kept kept ≡ true
+unfolding deopt_at
+deopt-kept ts kept rest e = maybe-brackets (list_all is_kept) deopt_bundle_at bundle-kept [] refl (begins (is_mark (codes "[")) ts) ts kept rest e
+
+abbrev pub keeps : List (Val × TypeWord) × List Val → Bool
+keeps both = list_all is_kept both.0
+
+bundles-by : (b : Bool) (ts : List Tok) (both : List (Val × TypeWord) × List Val) (rest : List Tok)
+    → (if b then after (deopt_bundle_at ts) (λ kept ts. after (live_behind_at ts) (λ live ts. Some ((kept, live), ts)))
+    else after (live_bundle_at ts) (λ live ts. Some (([], live), ts))) ≡ Some (both, rest) → keeps both ≡ true
+bundles-by true ts both rest e =
+    let a = went (deopt_bundle_at ts) (λ kept ts. after (live_behind_at ts) (λ live ts. Some ((kept, live), ts))) (both, rest) e in
+    let b = went (live_behind_at a.rest) (λ live ts. Some ((a.x, live), ts)) (both, rest) a.more in
+    tells keeps (a.x, b.x) both b.rest rest b.more (bundle-kept ts a.x a.rest a.is)
+bundles-by false ts both rest e =
+    let a = went (live_bundle_at ts) (λ live ts. Some (([], live), ts)) (both, rest) e in
+    tells keeps ([], a.x) both a.rest rest a.more refl
+
+inner-keeps : (ts : List Tok) (both : List (Val × TypeWord) × List Val) (rest : List Tok) → some_bundles_at ts ≡ Some (both, rest) → keeps both ≡ true
+unfolding some_bundles_at
+inner-keeps ts both rest e = bundles-by (begins is_deopt_tag ts) ts both rest e
+
+bundles-keep : (ts : List Tok) (both : List (Val × TypeWord) × List Val) (rest : List Tok) → bundles_at ts ≡ Some (both, rest) → keeps both ≡ true
+unfolding bundles_at
+bundles-keep ts both rest e = maybe-brackets keeps some_bundles_at inner-keeps ([], []) refl (begins (is_mark (codes "[")) ts) ts both rest e
+
 -- ---- what stands at slots
 
 -- what passes a test
@@ -369,7 +439,8 @@ At a_token rest = List ℕ × rest
 At a_global rest = List ℕ × rest
 At some_types rest = List TypeWord × rest
 At some_handed rest = Passing (list_all passes) × rest
-At some_live rest = List Val × rest
+At some_deopt rest = Passing (list_all is_kept) × rest
+At some_bundles rest = Passing keeps × rest
 At a_result rest = Passing (read_as is_value_type) × rest
 At (a_number of_type) rest = Literal × rest
 At _ rest = rest
@@ -403,7 +474,8 @@ saying a_token f rest a = items.name a.0 ∷ rest a.1
 saying a_global f rest a = items.name a.0 ∷ rest a.1
 saying some_types f rest a = items.types a.0 ∷ rest a.1
 saying some_handed f rest a = items.handed a.0.x ∷ rest a.1
-saying some_live f rest a = items.live a.0 ∷ rest a.1
+saying some_deopt f rest a = items.deopt a.0.x ∷ rest a.1
+saying some_bundles f rest a = items.bundles a.0.x.0 a.0.x.1 ∷ rest a.1
 saying a_result f rest a = items.ty a.0.x ∷ rest a.1
 saying (a_number of_type) f rest a = items.literal a.0 ∷ rest a.1
 saying blank f rest a = rest a
@@ -483,7 +555,9 @@ part_told a_token f ts here more behind e a is = told (items_of f) a here more b
 part_told a_global f ts here more behind e a is = told (items_of f) a here more behind is items.name _ e
 part_told some_types f ts here more behind e a is = told (items_of f) a here more behind is items.types _ e
 part_told some_handed f ts here more behind e a is = tested (items_of f) a here more behind is (list_all passes) items.handed _ (handed-types ts) e
-part_told some_live f ts here more behind e a is = told (items_of f) a here more behind is items.live _ e
+part_told some_deopt f ts here more behind e a is = tested (items_of f) a here more behind is (list_all is_kept) items.deopt _ (deopt-kept ts) e
+part_told some_bundles f ts here more behind e a is =
+    tested (items_of f) a here more behind is keeps (λ (both : List (Val × TypeWord) × List Val). items.bundles both.0 both.1) _ (bundles-keep ts) e
 part_told a_result f ts here more behind e a is = tested (items_of f) a here more behind is (read_as is_value_type) items.ty _ (result-type ts) e
 part_told (a_number of_type) f ts here more behind e a is = told (items_of f) a here more behind is items.literal _ e
 part_told blank f ts here more behind e a is = quiet (items_of f) a here more behind is (sym (first-is [] here ts behind e))

@@ -1,5 +1,5 @@
 -- The law of the typer: the module of faultless lines that stand where they may is a typed module of its form.
-use Rattle.std.proofs.Common.{◌<◌, ◌≤◌, ◌^◌, List, [], length, refl, ap, arith}
+use Rattle.std.proofs.Common.{◌<◌, ◌≤◌, ◌^◌, List, [], length, refl, arith}
 use Rattle.std.specs.Prelude.{flat_map}
 use Rattle.std.specs.List.{All}
 use Rattle.std.proofs.lemmas.List.{length-map}
@@ -24,10 +24,10 @@ use Rattle.ir_resolve.proofs.Standing.{BodyStands, bodies}
 use Rattle.ir_lines.specs.ReadLines.{IsReadLines, is_instruction}
 use Rattle.ir_lines.specs.TextLines.{IsTextLines}
 use Rattle.module_build.specs.Placed.{IsPlacedFunction, IsPlaced}
-use Rattle.module_laws.specs.TextFunctions.{IsTextFunction}
+use Rattle.module_laws.specs.TextFunctions.{HasFewInstructions}
 use Rattle.module_laws.proofs.LawLines.{InLaw, made, read_function}
 use Rattle.module_laws.proofs.LawTyped.{content}
-use Rattle.module_laws.proofs.LawFunctions.{kept, each_inst, local_known, global_known, function_source, function_widths, has_block, are_lines, has_names, has_no_bundle, few_made}
+use Rattle.module_laws.proofs.LawFunctions.{kept, each_inst, local_known, global_known, function_source, function_widths, has_block, are_lines, has_names, few_made}
 use Rattle.module_laws.proofs.LawRows.{small, id_words}
 use Rattle.module_laws.proofs.LawModules.{each_function, layouts_filled, layouts_typed, limits_kept, names_once, names_free, module_typed, total_made}
 use Rattle.module_build.proofs.Placing.{read-placed}
@@ -101,7 +101,7 @@ blocks_end form lines func law placed =
 bundles_short : (form : Form) (lines : List Line) (func : Definition) → InLaw form lines func
     → All (λ inst. length inst.bundle ≤ 64) (instructions_of (made lines func).blocks)
 bundles_short form lines func law =
-    each_inst form lines func law (λ inst. length inst.bundle ≤ 64) (λ inst good. (let none = good.bundle in omega (arith, ap length none)))
+    each_inst form lines func law (λ inst. length inst.bundle ≤ 64) (λ inst good. good.few_kept)
 
 function_typed_in : (form : Form) (lines : List Line) → IsTextLines form lines → IsPlaced lines → (func : Definition) → InLaw form lines func → IsTypedFunction form (made lines func)
 function_typed_in form lines text placed func law = record {
@@ -132,8 +132,5 @@ typed_module form lines read text none = record {
 }
 
 -- what its functions have besides
-pub text_functions : (form : Form) (lines : List Line) → IsReadLines form lines → HasNoResolvedFault form lines → All IsTextFunction (content form lines).funcs
-text_functions form lines read none = each_function form lines read none IsTextFunction (λ func law. record {
-  no_bundle = has_no_bundle form lines func law;
-  few_instructions = few_instructions form lines func law;
-})
+pub text_functions : (form : Form) (lines : List Line) → IsReadLines form lines → HasNoResolvedFault form lines → All HasFewInstructions (content form lines).funcs
+text_functions form lines read none = each_function form lines read none HasFewInstructions (few_instructions form lines)

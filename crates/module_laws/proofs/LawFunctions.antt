@@ -20,7 +20,7 @@ use Rattle.ir_ast.specs.Funcs.{instructions_of}
 use Rattle.ir_ast.specs.Values as defs
 use Rattle.ir_ast.specs.Types.{is_first_class}
 use Rattle.ir_ast.specs.Lines.{IsLine, is_rewritten}
-use Rattle.ir_ast.specs.Operands.{is_value, value_in}
+use Rattle.ir_ast.specs.Operands.{is_value, value_in, values_used}
 use Rattle.ir_ast.specs.Widths.{IsWidth, type_widths, line_widths, widths_of}
 use Rattle.ir_ast.specs.Lists.{Distinct}
 use Rattle.ir_ast.specs.Faults.TypeClash.{Fits, IsTyped, FunctionIsTyped, asked}
@@ -28,7 +28,6 @@ use Rattle.ir_ast.specs.Faults.UnknownName.{NamesOfFunction, NamesOfModule, Loca
 use Rattle.ir_ast.specs.Faults.Reserved.{IsInsertedName, IsSource}
 use Rattle.ir_ast.specs.declared.modules.Form.{Form}
 use Rattle.ir_ast.specs.declared.modules.Form.TheVariants.{Source}
-use Rattle.ir_ast.specs.Bundles.{HasNoBundle}
 use Rattle.ir_cfg.specs.Limits.{IsName, HasNames}
 use Rattle.std.specs.Fmt.{digits}
 use Rattle.sp_text.specs.Tokens.{is_name}
@@ -168,26 +167,34 @@ pub each_inst : (form : Form) (lines : List Line) (func : Definition) → InLaw 
     → All P (instructions_of (made lines func).blocks)
 each_inst form lines func law P f = All-weaker (GoodInst form lines func) P f (instructions_of (made lines func).blocks) (good_insts form lines func law)
 
-fits_below : (T : List Ty) (os : List Operand) (ts : List Ty) → AllZip (Fits T) os ts → AllByRecursion (λ v. v < length T) (filter_map value_in (os ++ []))
-fits_below T [] [] zip = tt
-fits_below T [] (t ∷ ts) zip = tt
-fits_below T (o ∷ os) [] zip = absurd zip
-fits_below T (operands.Value value ∷ os) (t ∷ ts) zip = (slice_get_within T value.0 t zip.0, fits_below T os ts zip.1)
-fits_below T (operands.Int number ∷ os) (t ∷ ts) zip = fits_below T os ts zip.1
-fits_below T (operands.Null ∷ os) (t ∷ ts) zip = fits_below T os ts zip.1
-fits_below T (operands.Fun f ∷ os) (t ∷ ts) zip = fits_below T os ts zip.1
+kept_below : (T : List Ty) (bundle : List (Ty × Operand)) → AllByRecursion (λ entry. Fits T entry.1 entry.0) bundle
+    → AllByRecursion (λ v. v < length T) (filter_map value_in (map (λ entry. entry.1) bundle))
+kept_below T [] fit = tt
+kept_below T ((ty, operands.Value value) ∷ bundle) fit = (slice_get_within T value.0 ty fit.0, kept_below T bundle fit.1)
+kept_below T ((ty, operands.Int number) ∷ bundle) fit = kept_below T bundle fit.1
+kept_below T ((ty, operands.Null) ∷ bundle) fit = kept_below T bundle fit.1
+kept_below T ((ty, operands.Fun f) ∷ bundle) fit = kept_below T bundle fit.1
+
+fits_below : (T : List Ty) (bundle : List (Ty × Operand)) → AllByRecursion (λ entry. Fits T entry.1 entry.0) bundle
+    → (os : List Operand) (ts : List Ty) → AllZip (Fits T) os ts → AllByRecursion (λ v. v < length T) (filter_map value_in (os ++ map (λ entry. entry.1) bundle))
+fits_below T bundle fit [] [] zip = kept_below T bundle fit
+fits_below T bundle fit [] (t ∷ ts) zip = kept_below T bundle fit
+fits_below T bundle fit (o ∷ os) [] zip = absurd zip
+fits_below T bundle fit (operands.Value value ∷ os) (t ∷ ts) zip = (slice_get_within T value.0 t zip.0, fits_below T bundle fit os ts zip.1)
+fits_below T bundle fit (operands.Int number ∷ os) (t ∷ ts) zip = fits_below T bundle fit os ts zip.1
+fits_below T bundle fit (operands.Null ∷ os) (t ∷ ts) zip = fits_below T bundle fit os ts zip.1
+fits_below T bundle fit (operands.Fun f ∷ os) (t ∷ ts) zip = fits_below T bundle fit os ts zip.1
 
 knows_local : (form : Form) (lines : List Line) (func : Definition) (inst : Instruction) → GoodInst form lines func inst
     → IsTypedBesidesCalls (scope_made form lines func) inst → NamesOfFunction (made lines func) inst
 knows_local form lines func inst good typed =
     let T = defs.value_types (made lines func) in
     let count : length T ≡ length (defs.definitions_of (made lines func)) = length-map (defs.definitions_of (made lines func)) defs.definition_type in
-    let below = fits_below T inst.operands (asked inst.op inst.ty (length inst.operands)) typed.operands in
+    let fit = recursion_from_All (λ (entry : Ty × Operand). Fits T entry.1 entry.0) inst.bundle typed.bundle in
+    let below = fits_below T inst.bundle fit inst.operands (asked inst.op inst.ty (length inst.operands)) typed.operands in
     record {
-      values = subst (λ (b : List (Ty × Operand)). All (λ value. value < length (defs.definitions_of (made lines func))) (filter_map value_in (inst.operands ++ map (λ (entry : Ty × Operand). entry.1) b)))
-          (sym good.bundle)
-          (subst (λ (n : ℕ). All (λ value. value < n) (filter_map value_in (inst.operands ++ []))) count
-          (All-from_recursion (λ (value : ℕ). value < length T) (filter_map value_in (inst.operands ++ [])) below));
+      values = subst (λ (n : ℕ). All (λ value. value < n) (values_used inst)) count
+          (All-from_recursion (λ (value : ℕ). value < length T) (values_used inst) below);
       blocks = good.labels;
     }
 
@@ -389,9 +396,6 @@ has_names form lines func law = record {
   values = values_named form lines func law IsName (values_names form lines func law);
   labels = blocks_named lines func IsName (blocks_names form lines func law);
 }
-
-pub has_no_bundle : (form : Form) (lines : List Line) (func : Definition) → InLaw form lines func → HasNoBundle (made lines func)
-has_no_bundle form lines func law = each_inst form lines func law (λ inst. inst.bundle ≡ []) (λ inst good. good.bundle)
 
 -- as many as lines that count
 pub few_made : (lines : List Line) (func : Definition) → length (instructions_of (made lines func).blocks) ≤ instruction_count func.body

@@ -1,7 +1,7 @@
 -- The instructions of statepoint groups have the parts of their forms, their widths and their names.
-use Rattle.std.proofs.Common.{◌≡◌, ◌∙◌, ℕ, ◌<◌, Bool, true, false, ◌&&◌, List, [], ◌∷◌, ◌++◌, map, length, take, drop, refl, ap, sym, subst}
+use Rattle.std.proofs.Common.{◌≡◌, ◌∙◌, ℕ, ◌<◌, Bool, true, false, ◌&&◌, List, [], ◌∷◌, ◌++◌, map, length, take, drop, refl, ap, sym, subst, arith}
 use Rattle.std.specs.Prelude.{Some, None, IfSome}
-use Rattle.std.specs.List.{AllByRecursion, list_all}
+use Rattle.std.specs.List.{All, AllByRecursion, list_all}
 use Rattle.std.proofs.lemmas.List.{length-map}
 use Rattle.std.proofs.lemmas.List.Elements.{All-nil, All-from_recursion, recursion_from_All}
 use Rattle.std.proofs.Math.Seq.{take-append_seam, drop-append_seam}
@@ -36,13 +36,14 @@ use Rattle.ir_lines.specs.Parts.{is_of_group, live_use, token_use, index_use}
 use Rattle.ir_lines.specs.Sections.{Definition}
 use Rattle.ir_lines.specs.Scope.{scope_of, head_named}
 use Rattle.ir_lines.specs.Types.{literal_fits}
-use Rattle.ir_lines.specs.Modules.{Known, known_of, type_of, binary_of, conversion_of, given_type, passed_operand, used_operand, wrapped, instruction, instruction_said}
+use Rattle.ir_lines.specs.Modules.{Known, known_of, type_of, binary_of, conversion_of, given_type, passed_operand, used_operand, kept_entry, wrapped, instruction, instruction_said, keeping}
 use Rattle.ir_lines.specs.Faults.TypeClash.{call_agrees, takes_types}
 use Rattle.ir_lines.specs.ReadLines.{IsReadPassed}
 use Rattle.module_laws.proofs.LawLines.{InLaw, LineFacts, made, is_value_in}
 use Rattle.module_laws.proofs.LawCalls.{IsGoodCall, over}
 use Rattle.module_laws.proofs.LawExternals.{good_call}
-use Rattle.module_laws.proofs.LawTyped.{GoodInst, content, scope_made, all-list, type_width, answer_width, answers, is_first, widths_made, values_name_none, no_names, no_layout, one_value}
+use Rattle.module_laws.proofs.LawBundles.{good_bundle, named_same}
+use Rattle.module_laws.proofs.LawTyped.{GoodInst, content, scope_made, all-list, type_width, answer_width, answers, is_first, widths_made, widths_kept, values_name_none, no_names, no_layout, one_value}
 use Rattle.module_laws.proofs.LawInsts.{passed_widths}
 use Rattle.std.proofs.lemmas.Bool.{not-false}
 use Rattle.list_laws.proofs.Booleans.{first_true}
@@ -82,8 +83,9 @@ live_values known (v ∷ vs) = (is_value_in known.values Managed v, live_values 
 
 abbrev statepoint_made : List Line → Definition → List ℕ → Guarded → List Val → Callee → Instruction
 statepoint_made lines func result called live callee =
-    instruction (Some result) (ops.Statepoint (wrapped 64 called.id) callee (map given_type called.passed)) (type_of called.signature.answer)
-    (map (passed_operand (known_of lines func)) called.passed ++ live_made (known_of lines func) live) []
+    keeping (map (kept_entry (known_of lines func)) called.kept)
+    (instruction (Some result) (ops.Statepoint (wrapped 64 called.id) callee (map given_type called.passed)) (type_of called.signature.answer)
+    (map (passed_operand (known_of lines func)) called.passed ++ live_made (known_of lines func) live) [])
 
 -- the arguments stand first and then the live entries
 pub taken_first : (passed : List Given) (known : Known) (L : List Operand)
@@ -107,6 +109,8 @@ statepoint_at form lines func law result called live facts g =
     let A = map (passed_operand known) called.passed in
     let L = live_made known live in
     let types = map given_type called.passed in
+    let kept = good_bundle known called.kept facts.read.kept in
+    let op : Op = ops.Statepoint (wrapped 64 called.id) g.callee types in
     let below : ℕ → Type 0 = λ named. named < length (content form lines).funcs in
     let vals : list_all is_value L ≡ true = all-list is_value L (live_values known live) in
     let read = recursion_from_All IsReadPassed called.passed facts.read.passed in
@@ -117,17 +121,19 @@ statepoint_at form lines func law result called live facts g =
         arguments = subst (λ (os : List Operand). Arguments g.callee os types) (sym (taken_first called.passed known L)) g.arguments;
         entries = ap (list_all is_value) (dropped_first called.passed known L) ∙ vals;
         no_labels = refl;
-        bundle = refl;
+        bundle = kept.typed;
       };
       called = record { signature = g.signature; operands = takes_more (scope_made form lines func) g.callee A L g.takes };
-      widths = widths_made (ops.Statepoint (wrapped 64 called.id) g.callee types) (Some result) (type_of called.signature.answer) (A ++ L) []
-          (passed_widths called.passed read) (answer_width called.signature.answer facts.read.answered);
-      bundle = refl;
+      widths = widths_kept op (type_of called.signature.answer) (map (kept_entry known) called.kept) (passed_widths called.passed read)
+          (answer_width called.signature.answer facts.read.answered) kept.widths;
+      bundle = kept.typed;
+      few_kept = kept.few;
       plain = λ is. absurd (let bad : true ≡ false = facts.own is in cc);
       layouts = g.layouts;
-      functions = All-from_recursion below (functions_in (statepoint_made lines func result called live g.callee))
+      functions = subst (All below) (sym (named_same (map (kept_entry known) called.kept) kept.typed (Some result) op (type_of called.signature.answer) (A ++ L)))
+          (All-from_recursion below (functions_in (instruction (Some result) op (type_of called.signature.answer) (A ++ L) []))
           (names_called below g.callee types (type_of called.signature.answer) (wrapped 64 called.id) result A L vals
-          (recursion_from_All below (functions_in (Rattle.module_laws.proofs.LawCalls.call_made g.callee called.signature.answer called.passed known)) g.functions));
+          (recursion_from_All below (functions_in (Rattle.module_laws.proofs.LawCalls.call_made g.callee called.signature.answer called.passed known)) g.functions)));
       labels = All-nil (λ (label : BlockId). label.0 < length (made lines func).blocks);
     }
 
@@ -159,6 +165,7 @@ good_gc_result form lines func law result ty token facts =
       called = tt;
       widths = widths_made ops.GcResult (Some result) (type_of ty) (t ∷ []) [] (All-nil IsWidth) (type_width ty facts.read.1);
       bundle = refl;
+      few_kept = omega arith;
       plain = λ is. absurd (let bad : true ≡ false = facts.own is in cc);
       layouts = no_layout form lines;
       functions = no_names form lines (t ∷ []) (one_value t refl);
@@ -180,6 +187,7 @@ good_gc_relocate form lines func law result token base derived facts =
       called = tt;
       widths = widths_made ops.GcRelocate (Some result) tys.Ptr os [] (All-nil IsWidth) (All-nil IsWidth);
       bundle = refl;
+      few_kept = omega arith;
       plain = λ is. absurd (let bad : true ≡ false = facts.own is in cc);
       layouts = no_layout form lines;
       functions = no_names form lines os refl;

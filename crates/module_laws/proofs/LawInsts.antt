@@ -12,6 +12,7 @@ use Rattle.ir_ast.specs.declared.ops.Op.TheVariants as ops
 use Rattle.ir_ast.specs.declared.ops.Operand.{Operand}
 use Rattle.ir_ast.specs.declared.ops.Callee.{Callee}
 use Rattle.ir_ast.specs.Insts.{Instruction}
+use Rattle.ir_ast.specs.Callees.{is_leaf}
 use Rattle.ir_ast.specs.Types.{is_void}
 use Rattle.ir_ast.specs.Lines.{IsLine, is_rewritten}
 use Rattle.ir_ast.specs.Operands.{is_value, is_literal, functions_named as functions_in, layouts_named as layouts_in}
@@ -24,11 +25,11 @@ use Rattle.line_tokens.specs.declared.literals.Literal.{Literal}
 use Rattle.line_parts.specs.Parts.{Val, is_case_value}
 use Rattle.line_parts.specs.Parts as values
 use Rattle.line_parts.specs.Lists.{Given, given, function}
-use Rattle.ir_lines.specs.Statements.{Called, Line, Statement, layout_step, call, switch, switch_case}
+use Rattle.ir_lines.specs.Statements.{Called, Line, Statement, layout_step, call, switch, switch_case, kept_by}
 use Rattle.ir_lines.specs.Sections.{Definition, LayoutLine, BlockLines, blocks_of, layouts_of}
 use Rattle.ir_lines.specs.Scope.{scope_of, layout_named, block_named}
 use Rattle.ir_lines.specs.Places.{number_in}
-use Rattle.ir_lines.specs.Modules.{known_of, type_of, layout_of, operand_in, operand_of, entry_operand, entry_label, label_of, passed_operand, given_type, instruction, instruction_said, place_of, block_of, case_values, case_labels}
+use Rattle.ir_lines.specs.Modules.{known_of, type_of, layout_of, operand_in, operand_of, entry_operand, entry_label, label_of, passed_operand, given_type, instruction, instruction_said, place_of, block_of, case_values, case_labels, kept_entry, keeping}
 use Rattle.ir_lines.specs.Faults.TypeClash.{call_agrees}
 use Rattle.ir_lines.specs.ReadLines.{SaysRead, IsValueType, IsReadCall, IsReadPassed}
 use Rattle.ir_lines.proofs.LawNames.{stands, stands_below, number-is}
@@ -37,7 +38,8 @@ use Rattle.module_laws.proofs.LawLines.{InLaw, LineFacts, made, read_function, i
 use Rattle.module_laws.proofs.LawCases.{each_case, labels-cases}
 use Rattle.module_laws.proofs.LawCalls.{IsGoodCall}
 use Rattle.module_laws.proofs.LawExternals.{good_call}
-use Rattle.module_laws.proofs.LawTyped.{GoodInst, IsCalled, content, scope_made, all-list, type_width, answers, is_first, widths_made, no_names, no_layout, two_values, width_one, good_layout}
+use Rattle.module_laws.proofs.LawBundles.{good_bundle, kept_read, leaf_keeps_none, named_same}
+use Rattle.module_laws.proofs.LawTyped.{GoodInst, IsCalled, content, scope_made, all-list, type_width, answers, is_first, widths_made, widths_kept, no_names, no_layout, two_values, width_one, good_layout}
 use Rattle.std.proofs.lemmas.Bool.{not-false, and_from}
 
 -- ---- labels
@@ -86,6 +88,7 @@ good_phi form lines func law result ty es read some known =
       called = tt;
       widths = widths_made ops.Phi (Some result) (type_of ty) os labels (All-nil IsWidth) (type_width ty read);
       bundle = refl;
+      few_kept = omega arith;
       plain = λ is. refl;
       layouts = no_layout form lines;
       functions = no_names form lines os vals;
@@ -114,29 +117,37 @@ call_width (Some result) answer read = type_width answer read.1
 
 abbrev line_made : List Line → Definition → Option (List ℕ) → Called → Callee → Instruction
 line_made lines func result called callee =
-    instruction result (ops.Call callee (map given_type called.passed)) (type_of called.answer) (map (passed_operand (known_of lines func)) called.passed) []
+    keeping (map (kept_entry (known_of lines func)) (kept_by called))
+    (instruction result (ops.Call callee (map given_type called.passed)) (type_of called.answer) (map (passed_operand (known_of lines func)) called.passed) [])
 
 call_at : (form : Form) (lines : List Line) (func : Definition) → InLaw form lines func → (result : Option (List ℕ)) (called : Called)
     → LineFacts form (scope_of lines func) (call result called)
     → (g : IsGoodCall form lines func called.callee called.answer called.passed) → GoodInst form lines func (line_made lines func result called g.callee)
-call_at form lines func law result called facts g = record {
-  line = record {
-    result = call_result result called.answer facts.read.0;
-    type = answers called.answer;
-    arguments = g.arguments;
-    no_labels = refl;
-    bundle = refl;
-    leaf = λ _. refl;
-  };
-  called = record { signature = g.signature; operands = g.takes };
-  widths = widths_made (ops.Call g.callee (map given_type called.passed)) result (type_of called.answer) (map (passed_operand (known_of lines func)) called.passed) []
-      (passed_widths called.passed (recursion_from_All IsReadPassed called.passed facts.read.1)) (call_width result called.answer facts.read.0);
-  bundle = refl;
-  plain = g.helper;
-  layouts = g.layouts;
-  functions = g.functions;
-  labels = All-nil (λ (label : BlockId). label.0 < length (made lines func).blocks);
-}
+call_at form lines func law result called facts g =
+    let known = known_of lines func in
+    let kept = good_bundle known (kept_by called) (kept_read called facts.read.2) in
+    let op : Op = ops.Call g.callee (map given_type called.passed) in
+    let below : ℕ → Type 0 = λ named. named < length (content form lines).funcs in
+    record {
+      line = record {
+        result = call_result result called.answer facts.read.0;
+        type = answers called.answer;
+        arguments = g.arguments;
+        no_labels = refl;
+        bundle = kept.typed;
+        leaf = λ leaf. leaf_keeps_none known called (ap is_leaf g.is ∙ leaf);
+      };
+      called = record { signature = g.signature; operands = g.takes };
+      widths = widths_kept op (type_of called.answer) (map (kept_entry known) (kept_by called))
+          (passed_widths called.passed (recursion_from_All IsReadPassed called.passed facts.read.1)) (call_width result called.answer facts.read.0) kept.widths;
+      bundle = kept.typed;
+      few_kept = kept.few;
+      plain = g.helper;
+      layouts = g.layouts;
+      functions = subst (All below) (sym (named_same (map (kept_entry known) (kept_by called)) kept.typed result op (type_of called.answer)
+          (map (passed_operand known) called.passed))) g.functions;
+      labels = All-nil (λ (label : BlockId). label.0 < length (made lines func).blocks);
+    }
 
 pub good_call_line : (form : Form) (lines : List Line) (func : Definition) → InLaw form lines func → (result : Option (List ℕ)) (called : Called)
     → LineFacts form (scope_of lines func) (call result called)
@@ -159,6 +170,7 @@ good_ends form lines func op ty os labels line called of_op of_type plain layout
   called = called;
   widths = widths_made op None ty os labels of_op of_type;
   bundle = refl;
+  few_kept = omega arith;
   plain = λ is. plain;
   layouts = layouts;
   functions = functions;

@@ -1,6 +1,6 @@
 -- The instruction of each line has the parts of its form, its widths and its names; and its types, where it keeps the rules.
-use Rattle.std.proofs.Common.{◌≡◌, ◌∙◌, ℕ, ◌<◌, Bool, true, false, ◌&&◌, ◌||◌, ◌==◌, if◌then◌else◌, List, [], ◌∷◌, ◌++◌, length, drop, refl, ap, sym, subst, arith}
-use Rattle.std.specs.Prelude.{Option, Some, None, ⊤}
+use Rattle.std.proofs.Common.{◌≡◌, ◌∙◌, ℕ, ◌<◌, ◌≤◌, Bool, true, false, ◌&&◌, ◌||◌, ◌==◌, if◌then◌else◌, List, [], ◌∷◌, ◌++◌, length, drop, refl, ap, sym, arith}
+use Rattle.std.specs.Prelude.{Option, Some, None, flat_map, ⊤}
 use Rattle.std.specs.List.{All, AllByRecursion, list_all}
 use Rattle.std.proofs.lemmas.List.Elements.{All-nil, All-cons, All-append, All-from_recursion}
 use Rattle.std.proofs.lemmas.Bool.Decides.{Decides-eqb}
@@ -14,12 +14,12 @@ use Rattle.ir_ast.specs.declared.ops.Operand.TheVariants as operands
 use Rattle.ir_ast.specs.declared.ops.Elem.TheVariants as elements
 use Rattle.ir_ast.specs.Insts.{Instruction}
 use Rattle.ir_ast.specs.Types.{is_void, is_integer, is_first_class, is_answer}
-use Rattle.ir_ast.specs.Lines.{IsLine, Has, is_element, is_rewritten}
+use Rattle.ir_ast.specs.Lines.{IsLine, Has, is_element, is_bundle, is_rewritten}
 use Rattle.ir_ast.specs.Operands.{is_value, functions_named as functions_in, layouts_named as layouts_in}
 use Rattle.ir_ast.specs.Widths.{IsWidth, type_widths, operator_widths, line_widths}
 use Rattle.ir_ast.specs.Lists.{Distinct}
 use Rattle.ir_ast.specs.Scope.{Scope, scope_of as module_scope}
-use Rattle.ir_ast.specs.Faults.TypeClash.{Fits, IsTyped, IsCallOf, RuleOf}
+use Rattle.ir_ast.specs.Faults.TypeClash.{IsTyped, IsCallOf, RuleOf}
 use Rattle.ir_ast.specs.declared.modules.Form.{Form}
 use Rattle.ir_ast.specs.declared.modules.Form.TheVariants.{Source}
 use Rattle.line_parts.specs.Types.{TypeWord}
@@ -55,7 +55,8 @@ pub record GoodInst (form : Form) (lines : List Line) (func : Definition) (inst 
   pub line : IsLine inst
   pub called : IsCalled (scope_made form lines func) inst.op inst
   pub widths : All IsWidth (line_widths inst)
-  pub bundle : inst.bundle ≡ []
+  pub bundle : is_bundle inst.bundle ≡ true
+  pub few_kept : length inst.bundle ≤ 64
   pub plain : form ≡ Source → is_rewritten inst.op ≡ false
   pub layouts : All (λ layout. layout < length (content form lines).layouts) (layouts_in inst)
   pub functions : All (λ named. named < length (content form lines).funcs) (functions_in inst)
@@ -88,10 +89,17 @@ answers Plain = refl
 pub is_first : (ty : TypeWord) → IsValueType ty → is_first_class (type_of ty) ≡ true
 is_first ty read = Rattle.module_laws.proofs.LawCalls.first_class ty read
 
+-- of a line with this operator, type and bundle
+pub widths_kept : (op : Op) (ty : Ty) (bundle : List (Ty × Operand)) → All IsWidth (operator_widths op) → All IsWidth (type_widths ty)
+    → All IsWidth (flat_map (λ entry. type_widths entry.0) bundle)
+    → All IsWidth (operator_widths op ++ type_widths ty ++ flat_map (λ entry. type_widths entry.0) bundle)
+widths_kept op ty bundle of_op of_type of_bundle =
+    let kept = flat_map (λ (entry : Ty × Operand). type_widths entry.0) bundle in
+    All-append IsWidth (operator_widths op ++ type_widths ty) kept (All-append IsWidth (operator_widths op) (type_widths ty) of_op of_type) of_bundle
+
 pub widths_made : (op : Op) (result : Option (List ℕ)) (ty : Ty) (operands : List Operand) (labels : List BlockId)
     → All IsWidth (operator_widths op) → All IsWidth (type_widths ty) → All IsWidth (line_widths (instruction result op ty operands labels))
-widths_made op result ty operands labels of_op of_type =
-    All-append IsWidth (operator_widths op ++ type_widths ty) [] (All-append IsWidth (operator_widths op) (type_widths ty) of_op of_type) (All-nil IsWidth)
+widths_made op result ty operands labels of_op of_type = widths_kept op ty [] of_op of_type (All-nil IsWidth)
 
 pub values_name_none : (P : ℕ → Type 0) (os : List Operand) → list_all is_value os ≡ true → AllByRecursion P (functions_in (over os))
 values_name_none P [] e = tt
@@ -123,6 +131,7 @@ good_plain form lines func result op ty os line called of_op of_type plain layou
   called = called;
   widths = widths_made op result ty os [] of_op of_type;
   bundle = refl;
+  few_kept = omega arith;
   plain = λ is. plain;
   layouts = layouts;
   functions = functions;
@@ -319,7 +328,6 @@ pub inst_typed : (form : Form) (lines : List Line) (func : Definition) (inst : I
     → IsTypedBesidesCalls (scope_made form lines func) inst → (inst.op ≡ ops.Switch → Distinct (drop 1 inst.operands)) → IsTyped (scope_made form lines func) inst
 inst_typed form lines func inst good typed cases = record {
   operands = typed.operands;
-  bundle = subst (All (λ (entry : Ty × Operand). Fits (scope_made form lines func).values entry.1 entry.0)) (sym good.bundle)
-      (All-nil (λ (entry : Ty × Operand). Fits (scope_made form lines func).values entry.1 entry.0));
+  bundle = typed.bundle;
   rule = rule_kept (scope_made form lines func) inst.op inst typed.rule good.called cases;
 }

@@ -1,6 +1,6 @@
 -- The values of a function are the names that its lines give.
 use Rattle.std.proofs.Common.{◌≡◌, ◌∙◌, ℕ, ◌≤◌, ◌+◌, Bool, cond, List, [], ◌∷◌, ◌++◌, map, length, refl, ap, sym, arith, length-append}
-use Rattle.std.specs.Prelude.{Some, None, suc, is_some, flat_map, filter, unwrap_or, decimal}
+use Rattle.std.specs.Prelude.{Some, None, is_some, flat_map, filter, unwrap_or, decimal}
 use Rattle.std.proofs.lemmas.List.{map-append}
 use Rattle.std.proofs.lemmas.List.Elements.{filter-append}
 use Rattle.std.proofs.lemmas.List.Sums.{sum_by-cons}

@@ -7,6 +7,7 @@ pub mod LawCases
 pub mod LawCalls
 pub mod LawExternals
 pub mod LawTyped
+pub mod LawBundles
 pub mod LawInsts
 pub mod LawGroups
 pub mod LawFunctions

@@ -1,5 +1,5 @@
 -- The lines of a text that has readings stand where they may, pass no limit of a line, and are few.
-use Rattle.std.proofs.Common.{◌≡◌, ◌∙◌, ℕ, ◌+◌, ◌≤◌, suc, refl, sym, ap, subst, Bool, true, false, ◌&&◌, List, [], ◌∷◌, length, Ok, arith}
+use Rattle.std.proofs.Common.{◌≡◌, ◌∙◌, ℕ, ◌+◌, ◌≤◌, suc, refl, sym, ap, subst, Bool, true, false, List, [], ◌∷◌, length, Ok, arith}
 use Rattle.std.specs.Prelude.{map, ◌==◌, if◌then◌else◌, slice_get, Option}
 use Rattle.std.specs.List.{All, list_all, slice_split}
 use Rattle.std.specs.Str.Lines.{lines, lines_of_parts}
@@ -55,6 +55,8 @@ form-limits : (form : Form) → is_dropped_form form ≡ false → (a : Parts (s
 form-limits (forms.Dropped which) kept a = absurd (let bad : true ≡ false = kept in cc)
 form-limits forms.Layout kept a = simp and_true
 form-limits forms.Define kept a = simp and_true
+form-limits forms.ValueCall kept a = simp and_true
+form-limits forms.VoidCall kept a = simp and_true
 form-limits forms.Statepoint kept a = simp and_true
 form-limits form kept a = refl
 

@@ -12,7 +12,7 @@ use Rattle.ir_ast.specs.Widths.{IsWidth}
 use Rattle.line_tokens.specs.Numbers.{is_width}
 use Rattle.line_parts.specs.Types.{TypeWord}
 use Rattle.line_parts.specs.Types.{Void, Int, Managed, Plain}
-use Rattle.line_parts.specs.Parts.{is_value_type, is_answer_type}
+use Rattle.line_parts.specs.Parts.{Val, is_value_type, is_answer_type}
 use Rattle.line_parts.specs.Lists.{Named, Given, given, function, is_argument_type}
 use Rattle.line_forms.specs.declared.forms.Form.{Form}
 use Rattle.line_forms.specs.declared.forms.Form.TheVariants as forms
@@ -22,9 +22,9 @@ use Rattle.line_forms.specs.Seen.{Said, label, line}
 use Rattle.line_forms.proofs.FamilyLines.{fit_parts}
 use Rattle.ir_reader.specs.Limits.{name_fits, item_fits, said_fits}
 use Rattle.ir_lines.specs.Statements.{of_form, stated}
-use Rattle.ir_lines.specs.ReadLines.{IsValueType, IsAnswerType, IsNameIfAny, IsReadArgument, IsReadPassed, SaysRead}
+use Rattle.ir_lines.specs.ReadLines.{IsValueType, IsAnswerType, IsNameIfAny, IsReadArgument, IsReadPassed, IsReadBundle, SaysRead}
 use Rattle.module_laws.proofs.Runs.{IsSpelled, IsKept}
-use Rattle.module_laws.proofs.Formed.{Parts, items_of, is_named, is_argument, parse_told, passes, read_as}
+use Rattle.module_laws.proofs.Formed.{Parts, items_of, is_named, is_argument, is_kept, parse_told, passes, read_as}
 
 width_is : (width : ℕ) → is_width width ≡ true → IsWidth width
 width_is width e = let b = and_parts (nat_le 1 width) (nat_le width 64) e in (leb-true 1 width b.0, leb-true width 64 b.1)
@@ -67,6 +67,16 @@ passed_read [] e = tt
 passed_read (one ∷ more) e =
     let a = and_parts (passes one) (list_all passes more) e in (given_read one a.0, passed_read more a.1)
 
+kept_read : (kept : List (Val × TypeWord)) → list_all is_kept kept ≡ true → AllByRecursion (λ used. IsValueType used.1) kept
+kept_read [] e = tt
+kept_read (used ∷ kept) e = let a = and_parts (is_kept used) (list_all is_kept kept) e in (value_type used.1 a.0, kept_read kept a.1)
+
+bundle_read : (kept : List (Val × TypeWord)) → list_all is_kept kept ≡ true → nat_le (length kept) 64 ≡ true → IsReadBundle kept
+bundle_read kept e f = record {
+  typed = All-from_recursion (λ (used : Val × TypeWord). IsValueType used.1) kept (kept_read kept e);
+  few = leb-true (length kept) 64 f;
+}
+
 -- what stands at the slots of a form, within the limits
 says_read : (form : Form) → is_dropped_form form ≡ false → (a : Parts (slots form)) → list_all item_fits (items_of (slots form) a) ≡ true → SaysRead (of_form form (slice_get (items_of (slots form) a)))
 says_read (forms.Dropped which) kept a f = absurd (let bad : true ≡ false = kept in cc)
@@ -98,20 +108,33 @@ says_read forms.Load kept a f = (a.0.is, value_type a.1.0.x a.1.0.is)
 says_read forms.Store kept a f = value_type a.0.x a.0.is
 says_read forms.ValueCall kept a f =
     let passed = a.1.1.0 in
-    ((a.0.is, value_type a.1.0.x a.1.0.is), All-from_recursion IsReadPassed passed.x.1 (passed_read passed.x.1 passed.is))
-says_read forms.VoidCall kept a f = (refl, All-from_recursion IsReadPassed a.0.x.1 (passed_read a.0.x.1 a.0.is))
+    let deopt = a.1.1.1.0 in (
+      (a.0.is, value_type a.1.0.x a.1.0.is),
+      All-from_recursion IsReadPassed passed.x.1 (passed_read passed.x.1 passed.is),
+      bundle_read deopt.x deopt.is (and_parts (nat_le (length deopt.x) 64) true f).0,
+    )
+says_read forms.VoidCall kept a f =
+    let deopt = a.1.0 in (
+      refl,
+      All-from_recursion IsReadPassed a.0.x.1 (passed_read a.0.x.1 a.0.is),
+      bundle_read deopt.x deopt.is (and_parts (nat_le (length deopt.x) 64) true f).0,
+    )
 says_read forms.Switch kept a f = width_is a.0.x a.0.is
 says_read forms.Case kept a f = a.1.0.is
 says_read forms.Return kept a f = value_type a.0.x a.0.is
 says_read forms.Statepoint kept a f =
     let answer = a.1.1.0 in
     let passed = a.1.1.1.1.1.1.0 in
-    let live = a.1.1.1.1.1.1.1.0 in
+    let both = a.1.1.1.1.1.1.1.0 in
+    let few = nat_le (length both.x.0) 64 in
+    let short = nat_le (length both.x.1) 16384 in
+    let fits = and_parts few short (and_parts (few && short) true f).0 in
     record {
       named = a.0.is;
       answered = answer_type answer.x answer.is;
       passed = All-from_recursion IsReadPassed passed.x (passed_read passed.x passed.is);
-      few = leb-true (length live) 16384 (and_parts (nat_le (length live) 16384) true f).0;
+      few = leb-true (length both.x.1) 16384 fits.1;
+      kept = bundle_read both.x.0 both.is fits.0;
     }
 says_read forms.GcResult kept a f = (a.0.is, value_type a.1.0.x a.1.0.is)
 says_read forms.GcRelocate kept a f = a.0.is

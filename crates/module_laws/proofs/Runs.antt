@@ -1,13 +1,11 @@
 -- The readings of a text one behind the other: what a line comes to in its place says of the line.
 use Rattle.std.proofs.Common.{◌≡◌, ℕ, ◌+◌, ◌≤◌, suc, refl, ap, sym, Bool, true, false, ◌&&◌, List, [], ◌∷◌, length, Ok, Err, Result, Option, Some, None, arith}
-use Rattle.std.specs.Prelude.{nat_le, if◌then◌else◌, ⊤}
+use Rattle.std.specs.Prelude.{if◌then◌else◌, ⊤}
 use Rattle.sp_text.specs.Tokens.{over, tokens}
 use Rattle.sp_text.specs.Lines.{NumberedLine}
 use Rattle.sp_text.specs.Labels.{label_of, is_metadata}
 use Rattle.ir_ast.specs.declared.modules.Form.{Form as TextForm}
-use Rattle.ir_ast.specs.declared.modules.Form.TheVariants as text_forms
 use Rattle.line_forms.specs.declared.forms.Form.{Form}
-use Rattle.ir_reader.specs.declared.states.Counts.{Counts}
 use Rattle.ir_reader.specs.declared.states.Counted.{Counted}
 use Rattle.ir_reader.specs.declared.states.Counted.TheVariants as kinds
 use Rattle.ir_reader.specs.declared.states.Place.{Place}

@@ -10,7 +10,7 @@ use Rattle.ir_lines.specs.Statements.{Line, lines_of}
 use Rattle.ir_lines.specs.Views.{seen_lines}
 use Rattle.ir_lines.specs.Modules.{module_of}
 use Rattle.ir_resolve.specs.FaultSet.{HasNoResolvedFault}
-use Rattle.module_laws.specs.TextFunctions.{IsTextFunction}
+use Rattle.module_laws.specs.TextFunctions.{HasFewInstructions}
 use Rattle.module_laws.proofs.LawForms.{typed_module, text_functions}
 use Rattle.module_laws.proofs.ReadTexts.{text-lines, seen-again}
 use Rattle.module_laws.proofs.ReadLaw.{read_law}
@@ -21,8 +21,8 @@ module _ (form : Form) (text : List ℕ) (readings : List Numbered) (small : len
   pub text_typed : IsTypedModule form (module_of form (lines_of readings)).content
   text_typed = typed_module form (lines_of readings) (read_law form text readings small read) (text-lines form text readings small read) none
 
-  -- and its functions are those of a text
-  pub text_made : All IsTextFunction (module_of form (lines_of readings)).content.funcs
+  -- and each of its functions has few instructions
+  pub text_made : All HasFewInstructions (module_of form (lines_of readings)).content.funcs
   text_made = text_functions form (lines_of readings) (read_law form text readings small read) none
 
 -- and so of what a reader gave
@@ -34,8 +34,8 @@ whole_typed r read whole is =
     (text_typed r.form r.text (map seen_numbered r.lines) read.small read.lines))
 
 pub whole_functions : (r : Readings) → IsRead r → (whole : LinedModule) → whole ≡ module_of r.form (seen_lines r.lines) → HasNoResolvedFault r.form (seen_lines r.lines)
-    → All IsTextFunction whole.content.funcs
+    → All HasFewInstructions whole.content.funcs
 whole_functions r read whole is =
-    subst (λ (one : LinedModule). HasNoResolvedFault r.form (seen_lines r.lines) → All IsTextFunction one.content.funcs) (sym is)
-    (subst (λ (ls : List Line). HasNoResolvedFault r.form ls → All IsTextFunction (module_of r.form ls).content.funcs) (seen-again r.lines)
+    subst (λ (one : LinedModule). HasNoResolvedFault r.form (seen_lines r.lines) → All HasFewInstructions one.content.funcs) (sym is)
+    (subst (λ (ls : List Line). HasNoResolvedFault r.form ls → All HasFewInstructions (module_of r.form ls).content.funcs) (seen-again r.lines)
     (text_made r.form r.text (map seen_numbered r.lines) read.small read.lines))

@@ -1,12 +1,7 @@
 -- What a function of a module that a text stands for has besides what its form asks.
 use Rattle.std.specs.Prelude.{◌<◌, ◌^◌, length}
 use Rattle.ir_ast.specs.Funcs.{Function, instructions_of}
-use Rattle.ir_ast.specs.Bundles.{HasNoBundle}
 
 -- a text within the file limit has at most 16,777,217 lines, and two of them are no instructions of a function
 abbrev pub HasFewInstructions : Function → Type 0
 HasFewInstructions func = length (instructions_of func.blocks) < 2 ^ 24
-
-pub record IsTextFunction (func : Function) : Type 0 where
-  pub no_bundle : HasNoBundle func
-  pub few_instructions : HasFewInstructions func

@@ -1,5 +1,5 @@
 -- A load and a store behind their check: the machine takes the same step, and never ends in poison.
-use Rattle.std.proofs.Common.{◌≡◌, ℕ, ◌-◌, Bool, true, ◌&&◌, List, [], ◌∷◌, map, refl, sym, ap, ◌∙◌, subst, Option, Some}
+use Rattle.std.proofs.Common.{◌≡◌, ℕ, ◌-◌, Bool, true, ◌&&◌, List, [], ◌∷◌, map, sym, ap, ◌∙◌, subst, Option, Some}
 use Rattle.std.specs.Prelude.{slice_get, Ok}
 use Rattle.ir_ast.specs.declared.cells.Cell.{Cell}
 use Rattle.ir_ast.specs.declared.cells.Cell.TheVariants.{I64, Ptr}
@@ -32,6 +32,7 @@ use Rattle.pair_facts.specs.Pairs.{after, given_pairs, own_pairs, with_given, wi
 use Rattle.machine_meaning.specs.Machines.{Machine, Machinery}
 use Rattle.moving_heap.specs.declared.stands.Stand.{Stand}
 use Rattle.object_meaning.specs.Traces.{access_of, accesses_at, reading, reads}
+use Rattle.object_meaning.proofs.AccessLaws.{cell_back}
 use Rattle.machine_meaning.specs.Happenings.{access_by, accesses_by, owned}
 use Rattle.machine_meaning.specs.MachineSteps.{loading_word, machine_acts, machine_at, machine_step, passes}
 use Rattle.machine_meaning.specs.Words.{worded}
@@ -50,10 +51,6 @@ not_call types op one other = cc
 
 not_select : (op : Op) → op ≡ Load → op ≡ Select → ⊥
 not_select op one other = cc
-
-cell_back : (cell : Cell) → cell_of (type_of cell) ≡ cell
-cell_back I64 = refl
-cell_back Ptr = refl
 
 module _ (content : ModuleContent) (machinery : Machinery) (setting : Setting) (layouts_are : setting.layouts ≡ content.layouts) (state : State) (extra : Extra)
     (related : IsRelated content state extra) (line : Line) (rest : List Line) (is : state.running.rest ≡ line ∷ rest) (op_is : line.inst.op ≡ Load)

@@ -29,10 +29,11 @@ use Rattle.object_meaning.specs.Calls.{stepped}
 use Rattle.object_meaning.specs.Effects.{Effect, ends}
 use Rattle.object_meaning.specs.Jumps.{branch_taken, case_taken, is_case, jumped, label_at}
 use Rattle.object_meaning.specs.Lines.{Line}
-use Rattle.object_meaning.specs.Registers.{operand, is_set, number_in}
+use Rattle.object_meaning.specs.Registers.{operand, number_in}
 use Rattle.object_meaning.specs.States.{State, Setting}
 use Rattle.object_meaning.specs.Steps.{acts, step, steps_at}
 use Rattle.object_meaning.specs.TargetRuns.{target_setting}
+use Rattle.object_meaning.proofs.LineLaws.{branch_within}
 use Rattle.pair_facts.specs.Lines.{operand_at}
 use Rattle.machine_meaning.specs.Code.{machinery_of}
 use Rattle.machine_meaning.specs.Machines.{Machine, Machinery, lifted}
@@ -75,13 +76,6 @@ case_lower chosen given some = by (position (is_case (number_in chosen)) (drop 1
         let lower = position_lower (is_case (number_in chosen)) (drop 1 given) at is in
         let whole = dropped given some in
         omega arith
-
-branch_lower : (condition : Datum) → branch_taken condition < 2
-branch_lower condition = by (is_set condition)
-  where
-    by : (b : Bool) → (if b then 0 else 1) < 2
-    by true = omega arith
-    by false = omega arith
 
 condition_plain : (ty : Ty) → is_condition ty ≡ true → is_pointer ty ≡ false
 condition_plain (Int width) is = refl
@@ -148,7 +142,7 @@ module _ (content : ModuleContent) (target : IsTargetModule content) (map_given 
       let has = form ops.CondBr op_is in
       let same = same_first (number_repeated types line.inst.operands (length line.inst.operands) line.inst.ty (fits ops.CondBr op_is) (condition_plain line.inst.ty has.type) 0) in
       by_label (subst IsJump (sym op_is) branches) (branch_taken (operand state.running.registers line.inst.operands 0))
-      (let count = has.label_count in let lower = branch_lower (operand state.running.registers line.inst.operands 0) in omega arith)
+      (let count = has.label_count in let lower = branch_within (operand state.running.registers line.inst.operands 0) in omega arith)
       (ap (steps_at setting state) is ∙ ap (acts setting state line rest) op_is)
       (ap (machine_at machinery machine) (ap (map worded) is)
       ∙ (ap (machine_acts machinery machine (worded line) (map worded rest)) op_is

@@ -1,20 +1,16 @@
 -- The end of a block, and the phis at the front of another.
-use Rattle.std.proofs.Common.{◌≡◌, ℕ, zero, suc, ◌+◌, ◌<◌, ◌≤◌, Bool, true, false, not, List, [], ◌∷◌, ◌++◌, length, take, refl, sym, ap, ◌∙◌, arith, cond, ltb, Option, Some, None}
-use Rattle.std.specs.Prelude.{slice_get, slice_index, if◌then◌else◌}
+use Rattle.std.proofs.Common.{◌≡◌, ℕ, zero, suc, ◌+◌, ◌<◌, ◌≤◌, Bool, true, false, not, List, [], ◌∷◌, ◌++◌, length, refl, sym, ap, ◌∙◌, arith, cond, Option, Some, None}
+use Rattle.std.specs.Prelude.{slice_get, slice_index}
 use Rattle.std.specs.List.{list_all}
 use Rattle.std.specs.Option.{option_map_or}
-use Rattle.std.proofs.lemmas.Bool.{lt-ltb, true≢false}
+use Rattle.std.proofs.lemmas.Bool.{true≢false}
 use Rattle.std.proofs.lemmas.List.{length-append}
-use Rattle.std.proofs.lemmas.List.Sums.{prefix_len-le-length}
 use Rattle.std.proofs.lemmas.Option.{none-some, same_Some}
 use Rattle.list_laws.proofs.Contents.{all_at}
-use Rattle.list_laws.proofs.Places.{get_some}
 use Rattle.ir_ast.specs.declared.modules.Form.TheVariants.{Rewritten}
-use Rattle.ir_ast.specs.declared.ops.Op.{Op}
 use Rattle.ir_ast.specs.declared.ops.Op.TheVariants as ops
 use Rattle.ir_ast.specs.Blocks.{BasicBlock, EndsAtTerminator}
 use Rattle.ir_ast.specs.Edges.{targets}
-use Rattle.ir_ast.specs.Faults.GroupShape.{entries_of, is_statepoint}
 use Rattle.ir_ast.specs.Faults.PhiEdges.{is_phi}
 use Rattle.ir_ast.specs.Funcs.{Function}
 use Rattle.ir_ast.specs.Insts.{Instruction}
@@ -23,16 +19,11 @@ use Rattle.ir_ast.specs.Ops.{is_terminator}
 use Rattle.ir_ast.proofs.BlockLemmas.{targets-last}
 use Rattle.ir_cfg.specs.TargetModules.{IsTargetModule}
 use Rattle.ir_cfg.specs.TypedModules.{IsTypedFunction}
-use Rattle.object_meaning.specs.Frames.{is_member}
 use Rattle.object_meaning.specs.Jumps.{phi_count}
-use Rattle.object_meaning.specs.Lines.{Line, following, insts_in, numbered, registers_of}
+use Rattle.object_meaning.specs.Lines.{Line, insts_in, registers_of}
 use Rattle.object_meaning.specs.TargetRuns.{plain_lines}
-use Rattle.pair_facts.specs.Lines.{group_in, line_before, line_in, lines_at}
-use Rattle.pair_facts.specs.Pairs.{Pairs, after, after_group}
-use Rattle.pair_facts.specs.Paths.{pairs_at}
-use Rattle.object_meaning.proofs.LineLaws.{line_is, plain_back, plain_count}
-use Rattle.pair_facts.proofs.OwnLaws.{head_none}
-use Rattle.ir_ast.proofs.OpLaws.{phi_outside}
+use Rattle.pair_facts.specs.Lines.{line_before, lines_at}
+use Rattle.object_meaning.proofs.LineLaws.{plain_from, plain_count}
 
 -- ---- the end of a block
 
@@ -66,7 +57,7 @@ end_of content target number func found block place line stands ends = by (slice
         let ended = all_at (λ (b : BasicBlock). EndsAtTerminator b.insts) func.blocks block defined own.ends is in
         let whole = ap (λ (one : Option BasicBlock). option_map_or (λ (b : BasicBlock). b.insts) one []) is ∙ ended.whole in
         let one = last_is ended.before ended.last line.inst place ended.inside
-        (sym (ap (λ (insts : List Instruction). slice_get insts place) whole) ∙ plain_back (slice_index (registers_of func) block) (insts_in func block) place line stands) ends in
+        (sym (ap (λ (insts : List Instruction). slice_get insts place) whole) ∙ (plain_from (slice_index (registers_of func) block) (insts_in func block) place line stands).0) ends in
         let count = length-append ended.before (ended.last ∷ []) in
         let all = plain_count (slice_index (registers_of func) block) (insts_in func block) ∙ ap length whole in
         let at = one.1 in
@@ -96,17 +87,3 @@ phi_lower (first ∷ lines) (suc place) line lower is = by (is_phi first.inst.op
 pub before_phis : (lines : List Line) (count : ℕ) → count ≤ phi_count lines → (line : Line) → line_before lines count ≡ Some line → is_phi line.inst.op ≡ true
 before_phis lines zero lower line before = absurd (none-some line before)
 before_phis lines (suc place) lower line before = phi_lower lines place line (omega arith) before
-
--- phis have acted on the edge
-pub front_stays : (lines : List Line) (front : Pairs) (count : ℕ) → count ≤ phi_count lines → pairs_at lines front count ≡ front
-front_stays lines front zero lower = refl
-front_stays lines front (suc place) lower =
-    let few : phi_count lines ≤ length lines = prefix_len-le-length (λ (line : Line). is_phi line.inst.op) lines in
-    let found = get_some lines place (omega arith) in
-    let op_is = ap (λ (l : Line). l.inst.op) (line_is lines place found.0 found.1) in
-    let outside = phi_outside found.0.inst.op (phi_lower lines place found.0 (omega arith) found.1) in
-    ap (λ (head : Option ℕ). option_map_or (λ (head : ℕ). after_group (entries_of (line_in lines head).inst) (group_in lines head)) head
-    (if ltb place (phi_count lines) then pairs_at lines front place else after (pairs_at lines front place) (line_before lines place) (line_in lines place)))
-    (head_none lines place (ap is_statepoint op_is ∙ outside.0) (ap is_member op_is ∙ outside.1))
-    ∙ (ap (λ (b : Bool). if b then pairs_at lines front place else after (pairs_at lines front place) (line_before lines place) (line_in lines place)) (lt-ltb place (phi_count lines) (omega arith))
-    ∙ front_stays lines front place (omega arith))

@@ -45,6 +45,7 @@ use Rattle.pair_facts.specs.Lines.{gives, line_before, lines_at, operand_at}
 use Rattle.pair_facts.specs.Pairs.{Pairs, along, given_pairs, on_edge, with_given, without}
 use Rattle.pair_facts.specs.Pairs.{incoming as taken}
 use Rattle.pair_facts.specs.Paths.{behind, pairs_at, pairs_at_end, went}
+use Rattle.pair_facts.proofs.PathLaws.{front_stays}
 use Rattle.machine_meaning.specs.Code.{machinery_of}
 use Rattle.machine_meaning.specs.Machines.{Machine, Machinery, lifted}
 use Rattle.machine_meaning.specs.Words.{worded}
@@ -53,7 +54,7 @@ use Rattle.moves_unseen.specs.Frames.{AreNumbers, IsRunning}
 use Rattle.moves_unseen.specs.States.{Extra, IsRelated, machine_of, worded_frame}
 use Rattle.moves_unseen.specs.Steps.{StepFollows, both_end, both_go}
 use Rattle.moves_unseen.specs.Types.{IsJump, IsLineOf, branches, jumps, switches}
-use Rattle.moves_unseen.proofs.JumpLaws.{IsEnd, before_phis, end_of, front_stays, phi_lower}
+use Rattle.moves_unseen.proofs.JumpLaws.{IsEnd, before_phis, end_of, phi_lower}
 use Rattle.moves_unseen.proofs.LineTypes.{lines_are_typed}
 use Rattle.moves_unseen.proofs.PassLaws.{with_words}
 use Rattle.moves_unseen.proofs.PhiLaws.{length_each, number_along, phis_worded, picked, picked_is, pointer_along, put_all_each, put_each, put_words_each, word_along}

@@ -1,48 +1,27 @@
 -- The function with which a target module begins, and how many registers a function has.
-use Rattle.std.proofs.Common.{◌≡◌, ◌≢◌, ℕ, suc, ◌+◌, ◌-◌, ◌<◌, Bool, true, false, not, List, [], ◌∷◌, ◌++◌, length, map, refl, sym, ap, ◌∙◌, arith, ltb, Option, Some, None, codes}
-use Rattle.std.specs.Prelude.{slice_get, slice_index, is_some, unwrap_or, if◌then◌else◌}
-use Rattle.std.specs.List.{All, filter, position, prefix_len}
+use Rattle.std.proofs.Common.{◌≡◌, ◌≢◌, ℕ, suc, ◌+◌, ◌-◌, ◌<◌, Bool, false, not, List, [], ◌∷◌, ◌++◌, length, refl, sym, ap, ◌∙◌, arith, ltb, Option, Some, None, codes}
+use Rattle.std.specs.Prelude.{slice_get, slice_index, unwrap_or, if◌then◌else◌}
+use Rattle.std.specs.List.{All, position, prefix_len}
 use Rattle.std.specs.Option.{option_map_or}
 use Rattle.std.specs.Str.{bytes_eq}
 use Rattle.std.proofs.lemmas.Bool.{false_from_ne_true, lt-ltb}
 use Rattle.std.proofs.lemmas.Slice.Eq.{bytes_eq-Decides}
 use Rattle.std.proofs.lemmas.List.{length-append, length-map}
-use Rattle.ir_ast.specs.Blocks.{BasicBlock}
 use Rattle.ir_ast.specs.Faults.NoMain.{HasMain}
 use Rattle.ir_ast.specs.Funcs.{Function, instructions_of}
-use Rattle.ir_ast.specs.Insts.{Instruction}
 use Rattle.ir_ast.specs.Modules.{ModuleContent}
-use Rattle.ir_ast.specs.Values.{argument, definition_type, definitions_of, outcome, value_types}
-use Rattle.object_meaning.specs.Lines.{after_all, first_registers, following, main_of, register_count, registers_of}
-use Rattle.object_meaning.proofs.LineLaws.{some_registers, last_register}
+use Rattle.ir_ast.specs.Values.{definition_type, definitions_of, value_types}
+use Rattle.object_meaning.specs.Lines.{main_of, register_count, registers_of}
+use Rattle.object_meaning.proofs.LineLaws.{last_register}
+use Rattle.object_meaning.proofs.GivenLaws.{after_is, definition_count}
 
 -- ---- registers
-
-abbrev has_result : Instruction → Bool
-has_result inst = is_some inst.result
-
-after_is : (next : ℕ) (insts : List Instruction) → after_all next insts ≡ next + length (filter has_result insts)
-after_is next [] = omega arith
-after_is next (inst ∷ insts) = by (is_some inst.result) (λ n. after_is n insts)
-  where
-    by : (b : Bool) → ((n : ℕ) → after_all n insts ≡ n + length (filter has_result insts))
-        → after_all (if b then next + 1 else next) insts ≡ next + length (if b then inst ∷ filter has_result insts else filter has_result insts)
-    by true rest = let is = rest (next + 1) in omega arith
-    by false rest = rest next
-
-value_count : (func : Function) → length (value_types func) ≡ length func.args + length (filter has_result (instructions_of func.blocks))
-value_count func =
-    let all = length-map (definitions_of func) definition_type in
-    let both = length-append (map argument func.args) (map outcome (filter has_result (instructions_of func.blocks))) in
-    let first = length-map func.args argument in
-    let second = length-map (filter has_result (instructions_of func.blocks)) outcome in
-    omega arith
 
 -- a register for each value
 pub register_for_each : (content : ModuleContent) (number : ℕ) (func : Function) → slice_get content.funcs number ≡ Some func → register_count content number ≡ length (value_types func)
 register_for_each content number func found =
     ap (λ (each : Option Function). option_map_or (λ defined. slice_index (registers_of defined) (length (registers_of defined) - 1)) each 0) found
-    ∙ (last_register (length func.args) func.blocks ∙ (after_is (length func.args) (instructions_of func.blocks) ∙ sym (value_count func)))
+    ∙ (last_register (length func.args) func.blocks ∙ (after_is (length func.args) (instructions_of func.blocks) ∙ (sym (definition_count func) ∙ sym (length-map (definitions_of func) definition_type))))
 
 -- ---- `@main`
 

@@ -14,6 +14,7 @@ use Rattle.object_meaning.specs.Jumps.{incoming, phi_count, phi_write}
 use Rattle.object_meaning.specs.Lines.{Line}
 use Rattle.object_meaning.specs.Registers.{nothing, operand, value, number_in, pointer_in, put, put_all}
 use Rattle.object_meaning.specs.TargetRuns.{plain_lines}
+use Rattle.object_meaning.proofs.RegisterLaws.{put_length}
 use Rattle.pair_facts.specs.Lines.{gives, operand_at}
 use Rattle.pair_facts.specs.Pairs.{value_along}
 use Rattle.pair_facts.specs.Pairs.{incoming as taken}
@@ -35,13 +36,9 @@ abbrev pub picked : {A : Type 0} → (Line → A) → List Line → ℕ → A �
 picked made [] at old = old
 picked made (phi ∷ phis) at old = if gives phi at then made phi else picked made phis at old
 
-length_put : {A : Type 0} (to : Option ℕ) (word : A) (held : List A) → length (put to word held) ≡ length held
-length_put None word held = refl
-length_put (Some at) word held = length-set held at word
-
 pub length_each : {A : Type 0} (made : Line → A) (phis : List Line) (held : List A) → length (put_each made phis held) ≡ length held
 length_each made [] held = refl
-length_each made (phi ∷ phis) held = length_each made phis (put phi.to (made phi) held) ∙ length_put phi.to (made phi) held
+length_each made (phi ∷ phis) held = length_each made phis (put phi.to (made phi) held) ∙ put_length phi.to (made phi) held
 
 abbrev line_as : Bool → ℕ → Instruction → Line
 line_as b next inst = record { to = if b then Some next else None; inst = inst }

@@ -1,5 +1,5 @@
 -- A plain line of a verified module: what its law asks for is there, so it is one step of both.
-use Rattle.std.proofs.Common.{◌≡◌, ℕ, zero, suc, true, false, not, List, [], ◌∷◌, length, map, replicate, refl, sym, ap, ◌∙◌, subst, arith, Option, Some, None}
+use Rattle.std.proofs.Common.{◌≡◌, ℕ, zero, suc, true, false, not, List, [], ◌∷◌, length, map, replicate, refl, sym, ap, ◌∙◌, subst, arith, Option, Some}
 use Rattle.std.specs.Prelude.{slice_get, is_some}
 use Rattle.std.specs.List.{AllZip, Contains}
 use Rattle.std.proofs.lemmas.Bool.{true≢false}
@@ -32,6 +32,7 @@ use Rattle.object_meaning.specs.Lines.{Line}
 use Rattle.object_meaning.specs.States.{State, Setting}
 use Rattle.object_meaning.specs.Steps.{step}
 use Rattle.object_meaning.specs.Traces.{access_of, accesses_at}
+use Rattle.object_meaning.proofs.AccessLaws.{cell_back}
 use Rattle.pair_facts.specs.declared.bases.Base.TheVariants.{Named}
 use Rattle.pair_facts.specs.Faults.{FaultAt, IsVerified}
 use Rattle.pair_facts.specs.Lines.{lines_at, operand_at}
@@ -192,10 +193,6 @@ no_machine_access machine line _ (sext width) = refl
 second_contained : {A : Type 0} (x y : A) (xs : List A) → Contains (x ∷ y ∷ xs) y
 second_contained x y xs = (1, (omega arith), refl)
 
-cell_of_type : (cell : Cell) → cell_of (type_of cell) ≡ cell
-cell_of_type cells.I64 = refl
-cell_of_type cells.Ptr = refl
-
 module _ (content : ModuleContent) (target : IsTargetModule content) (verified : IsVerified content) (machinery : Machinery) (setting : Setting)
     (layouts_are : setting.layouts ≡ content.layouts) (same_layouts : machinery.setting.layouts ≡ setting.layouts) (state : State) (extra : Extra) (related : IsRelated content state extra)
     (line : Line) (rest : List Line) (is : state.running.rest ≡ line ∷ rest) where
@@ -338,7 +335,7 @@ module _ (content : ModuleContent) (target : IsTargetModule content) (verified :
   checked_before : (op : Op) → line.inst.op ≡ op → (address : Operand) → accessed_at op line.inst ≡ Some address → (cell : Cell) → type_of cell ≡ line.inst.ty
       → IsCheckedBefore (lines_at func block) place state.running.registers address cell
   checked_before op op_is address accesses cell type_is =
-      subst (IsCheckedBefore (lines_at func block) place state.running.registers address) (ap cell_of (sym type_is) ∙ cell_of_type cell)
+      subst (IsCheckedBefore (lines_at func block) place state.running.registers address) (ap cell_of (sym type_is) ∙ cell_back cell)
       (check_before func block place no_fault related.running.pairs related.running.at.arrived line here address (ap (λ (each : Op). accessed_at each line.inst) op_is ∙ accesses) state.running.registers)
 
   load_both : line.inst.op ≡ ops.Load → Both

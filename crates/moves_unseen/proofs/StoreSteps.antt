@@ -1,5 +1,5 @@
 -- A store behind its check: the machine takes the same step, and each cell holds what it is to hold.
-use Rattle.std.proofs.Common.{◌≡◌, ℕ, ◌-◌, List, [], ◌∷◌, map, refl, sym, ap, ◌∙◌, subst, Option, Some, None}
+use Rattle.std.proofs.Common.{◌≡◌, ℕ, ◌-◌, List, [], ◌∷◌, map, sym, ap, ◌∙◌, subst, Option, Some, None}
 use Rattle.std.specs.Prelude.{Ok}
 use Rattle.ir_ast.specs.declared.cells.Cell.{Cell}
 use Rattle.ir_ast.specs.declared.cells.Cell.TheVariants.{I64, Ptr}
@@ -30,6 +30,7 @@ use Rattle.pair_facts.specs.Pairs.{after, given_pairs, with_given, without}
 use Rattle.machine_meaning.specs.Machines.{Machine, Machinery}
 use Rattle.moving_heap.specs.declared.stands.Stand.{Stand}
 use Rattle.object_meaning.specs.Traces.{access_of, accesses_at, writes, writing}
+use Rattle.object_meaning.proofs.AccessLaws.{cell_back}
 use Rattle.machine_meaning.specs.Happenings.{access_by, accesses_by, owned}
 use Rattle.machine_meaning.specs.MachineSteps.{machine_acts, machine_at, machine_step, passes, storing_word}
 use Rattle.machine_meaning.specs.Words.{worded, worded_operand}
@@ -49,10 +50,6 @@ not_call types op one other = cc
 
 not_select : (op : Op) → op ≡ Store → op ≡ Select → ⊥
 not_select op one other = cc
-
-cell_back : (cell : Cell) → cell_of (type_of cell) ≡ cell
-cell_back I64 = refl
-cell_back Ptr = refl
 
 module _ (content : ModuleContent) (machinery : Machinery) (setting : Setting) (layouts_are : setting.layouts ≡ content.layouts) (state : State) (extra : Extra)
     (related : IsRelated content state extra) (line : Line) (rest : List Line) (is : state.running.rest ≡ line ∷ rest) (op_is : line.inst.op ≡ Store)

@@ -1,10 +1,8 @@
 -- What a verified module gives a run: the pairs that a line uses stand along its path, and each access has its check before it.
-use Rattle.std.proofs.Common.{◌≡◌, ℕ, ◌&&◌, Bool, true, false, List, [], ◌∷◌, ◌++◌, refl, ap, ◌∙◌, Option, Some, None, inl, inr, ◌⊎◌}
+use Rattle.std.proofs.Common.{◌≡◌, ℕ, ◌&&◌, Bool, true, false, List, [], refl, ap, ◌∙◌, Option, Some, None, inl, inr, ◌⊎◌}
 use Rattle.std.specs.Prelude.{slice_get}
 use Rattle.std.specs.Option.{option_map_or}
-use Rattle.std.proofs.lemmas.Bool.{eqb-true, and_parts}
-use Rattle.ir_ast.specs.declared.cells.Cell.{Cell}
-use Rattle.ir_ast.specs.declared.cells.Cell.TheVariants.{I64, Ptr}
+use Rattle.std.proofs.lemmas.Bool.{and_parts}
 use Rattle.ir_ast.specs.declared.ops.Callee.TheVariants as callees
 use Rattle.ir_ast.specs.declared.ops.Op.{Op}
 use Rattle.ir_ast.specs.declared.ops.Op.TheVariants as ops
@@ -14,17 +12,17 @@ use Rattle.ir_ast.specs.declared.types.Ty.{Ty}
 use Rattle.ir_ast.specs.Cells.{kind_of}
 use Rattle.ir_ast.specs.Funcs.{Function}
 use Rattle.pair_facts.specs.declared.bases.Base.TheVariants.{Any, Named}
-use Rattle.ir_cfg.specs.Graphs.{graph_of}
-use Rattle.ir_cfg.specs.Paths.{Reached, along, at_entry}
 use Rattle.object_meaning.specs.Accesses.{cell_named, cell_of}
 use Rattle.object_meaning.specs.Lines.{Line}
 use Rattle.object_meaning.specs.Registers.{operand, value, number_in}
+use Rattle.object_meaning.proofs.AccessLaws.{cell_again}
 use Rattle.ir_ast.specs.Objects.{Datum}
 use Rattle.pair_facts.specs.Faults.{FaultAt, IsStale, loose, stale, unchecked}
 use Rattle.pair_facts.specs.Lines.{line_before, lines_at, operand_at, same_operand}
 use Rattle.pair_facts.specs.Pairs.{Pairs}
-use Rattle.pair_facts.specs.Paths.{Arrives, At, Misses, Stands, pairs_at, start, went}
+use Rattle.pair_facts.specs.Paths.{At, Misses, Stands, pairs_at}
 use Rattle.pair_facts.specs.Uses.{Use, Uses, accessed_at, checks_access, is_checked}
+use Rattle.pair_facts.proofs.PathLaws.{arrives_reached}
 use Rattle.moves_unseen.specs.Steps.{IsCheckedBefore}
 use Rattle.moves_unseen.proofs.ValueLaws.{value_at}
 use Rattle.ir_ast.proofs.OpLaws.{same_is}
@@ -67,12 +65,6 @@ module _ (func : Function) (block place : ℕ) (none : (code : ℕ) → ¬ Fault
       ap (λ (all : Pairs). all pair.base (Named pair.base)) arrived.is ∙ named_by pair.base (λ misses. inr misses) arrived.front arrived.arrives
 
 -- ---- checks before accesses
-
--- a path of a run is a path to its block
-arrives_reached : (func : Function) (block : ℕ) (front : Pairs) → Arrives func block front → Reached (graph_of func) block
-arrives_reached func _ _ start = (0 ∷ [], at_entry)
-arrives_reached func _ _ (went from to front arrives edge) =
-    let before = arrives_reached func from front arrives in (before.0 ++ to ∷ [], along before.0 from to before.1 edge)
 
 -- an operator for which a check is asked is one
 abbrev checks : Op → Bool
@@ -123,10 +115,6 @@ a_check (ops.Sext width) is = cc
 a_check (ops.Gep elem index_width place) is = cc
 a_check (ops.Statepoint id callee types) is = cc
 
-named_cell : (cell : Cell) → cell_named (kind_of cell) ≡ cell
-named_cell I64 = refl
-named_cell Ptr = refl
-
 checked_by : (lines : List Line) (place : ℕ) (registers : List Datum) (address : Operand) (ty : Ty) (found : Option Line) → line_before lines place ≡ found
     → option_map_or (checks_access address ty) found false ≡ true → IsCheckedBefore lines place registers address (cell_of ty)
 checked_by lines place registers address ty None before is = cc
@@ -142,7 +130,7 @@ checked_by lines place registers address ty (Some check) before is =
       same_address = same_is (operand_at check.inst.operands 1) address second.0;
       kind = ap (λ (d : Datum). cell_named (number_in d)) (value_at registers check.inst.operands 2)
           ∙ (ap (λ (o : Operand). cell_named (number_in (value registers o))) (same_is (operand_at check.inst.operands 2) (operands.Int (kind_of (cell_of ty))) second.1)
-          ∙ named_cell (cell_of ty));
+          ∙ cell_again (cell_of ty));
     }
 
 -- each access has a check of its address and kind directly before it

@@ -1,4 +1,4 @@
--- Where every cell has 8 bytes, the cell that an offset names is an eighth of it.
+-- The cell that an offset names: where every cell has 8 bytes, an eighth of it.
 use Rattle.std.proofs.Common.{◌≡◌, ℕ, zero, suc, ◌+◌, ◌*◌, ◌/◌, ◌%◌, ◌<◌, ◌≤◌, Bool, true, false, not, ◌==◌, ◌&&◌, ◌||◌, List, [], ◌∷◌, length, Some, None, Ok, Err, refl, ap, ◌∙◌, arith}
 use Rattle.std.specs.Prelude.{nat_lt, if◌then◌else◌, slice_index_or}
 use Rattle.std.specs.List.{position, position_from}
@@ -9,12 +9,25 @@ use Rattle.std.proofs.lemmas.Nat.{div-add-mod'}
 use Rattle.std.proofs.lemmas.Iterator.Adapters.{position_from-zero}
 use Rattle.sp_ids.specs.declared.ends.Trap.TheVariants.{Bounds, Kind}
 use Rattle.ir_ast.specs.declared.cells.Cell.{Cell}
+use Rattle.ir_ast.specs.declared.cells.Cell.TheVariants as cells
 use Rattle.ir_ast.specs.declared.cells.Cell.TheVariants.{I64}
-use Rattle.ir_ast.specs.Cells.{kind_of}
+use Rattle.ir_ast.specs.Cells.{kind_of, type_of}
 use Rattle.ir_ast.specs.Objects.{Pointer}
 use Rattle.ir_ast.specs.Sizes.{Field, bytes, size_of}
 use Rattle.ir_ast.proofs.SizeLaws.{bytes_are, laid_is, size_is, words_from}
-use Rattle.object_meaning.specs.Accesses.{cell_at, field_at, within}
+use Rattle.object_meaning.specs.Accesses.{cell_at, cell_named, cell_of, field_at, within}
+
+-- ---- the cell of a type, and the one that a literal names
+
+pub cell_again : (cell : Cell) → cell_named (kind_of cell) ≡ cell
+cell_again I64 = refl
+cell_again cells.Ptr = refl
+
+pub cell_back : (cell : Cell) → cell_of (type_of cell) ≡ cell
+cell_back I64 = refl
+cell_back cells.Ptr = refl
+
+-- ---- the cell at an offset
 
 abbrev begins_so : Cell → ℕ → Field → Bool
 begins_so asked byte field = (field.begins == byte) && (kind_of field.cell == kind_of asked)

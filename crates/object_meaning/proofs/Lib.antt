@@ -1,4 +1,7 @@
+pub mod BlockLaws
 pub mod LineLaws
+pub mod GivenLaws
+pub mod RegisterLaws
 pub mod ListLemmas
 pub mod NumberLemmas
 pub mod RunLaws

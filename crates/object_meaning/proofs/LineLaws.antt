@@ -1,14 +1,18 @@
 -- The registers of lines, and the lines of a block by their places.
-use Rattle.std.proofs.Common.{◌≡◌, ◌∙◌, ℕ, zero, suc, ◌+◌, ◌-◌, ◌<◌, ◌≤◌, Bool, true, false, if◌then◌else◌, List, [], ◌∷◌, ◌++◌, length, take, Option, Some, None, is_some, refl, ap, sym, arith, slice_get}
+use Rattle.std.proofs.Common.{◌≡◌, ◌∙◌, ℕ, zero, suc, ◌+◌, ◌-◌, ◌<◌, ◌≤◌, Bool, true, false, if◌then◌else◌, List, [], ◌∷◌, ◌++◌, length, take, Option, Some, None, is_some, refl, ap, sym, arith, slice_get, subst}
 use Rattle.std.specs.Prelude.{slice_index}
 use Rattle.std.proofs.lemmas.Bool.{eqb-true, false≢true}
 use Rattle.std.proofs.lemmas.Option.{get_or_from_slice_get, none-some, same_Some}
 use Rattle.ir_ast.specs.Insts.{Instruction}
 use Rattle.ir_ast.specs.Blocks.{BasicBlock}
-use Rattle.ir_ast.specs.Funcs.{instructions_of}
+use Rattle.ir_ast.specs.Funcs.{instructions_of, phis_of}
+use Rattle.ir_ast.specs.Ops.{is_phi}
+use Rattle.ir_ast.specs.Objects.{Datum}
 use Rattle.object_meaning.specs.Lines.{Line, numbered, following, after_all, first_registers}
 use Rattle.object_meaning.specs.TargetRuns.{plain_lines}
 use Rattle.object_meaning.specs.BlockLines.{is_given, line_in, no_line}
+use Rattle.object_meaning.specs.Jumps.{phi_count, branch_taken}
+use Rattle.object_meaning.specs.Registers.{is_set}
 
 -- ---- registers
 
@@ -46,6 +50,14 @@ pub count_registers : (next : ℕ) (blocks : List BasicBlock) → length (first_
 count_registers next [] = refl
 count_registers next (block ∷ blocks) = let rest = count_registers (after_all next block.insts) blocks in omega (arith, rest)
 
+-- the register of the first result of a block
+pub registers_at : (next : ℕ) (blocks : List BasicBlock) (number : ℕ) (block : BasicBlock) → slice_get blocks number ≡ Some block
+    → slice_index (first_registers next blocks) number ≡ after_all next (instructions_of (take number blocks))
+registers_at next [] number block is = absurd (none-some block is)
+registers_at next (first ∷ blocks) zero block is = refl
+registers_at next (first ∷ blocks) (suc number) block is =
+    registers_at (after_all next first.insts) blocks number block is ∙ sym (after_append next first.insts (instructions_of (take number blocks)))
+
 pub last_after : (next : ℕ) (registers : List ℕ) → 0 < length registers → slice_index (next ∷ registers) (length (next ∷ registers) - 1) ≡ slice_index registers (length registers - 1)
 last_after next [] some = absurd (omega arith)
 last_after next (first ∷ registers) some =
@@ -72,10 +84,22 @@ plain_at next [] place inst at = absurd (none-some inst at)
 plain_at next (first ∷ insts) zero inst at = ap (λ (i : Instruction). Some (numbered next i)) (same_Some first inst at)
 plain_at next (first ∷ insts) (suc place) inst at = plain_at (following next first) insts place inst at
 
-pub plain_back : (next : ℕ) (insts : List Instruction) (place : ℕ) (line : Line) → slice_get (plain_lines next insts) place ≡ Some line → slice_get insts place ≡ Some line.inst
-plain_back next [] place line is = absurd (none-some line is)
-plain_back next (inst ∷ insts) zero line is = ap (λ (l : Line). Some l.inst) (same_Some (numbered next inst) line is)
-plain_back next (inst ∷ insts) (suc place) line is = plain_back (following next inst) insts place line is
+-- the register that the result of an instruction goes to
+abbrev pub given_from : ℕ → Instruction → Option ℕ
+given_from next inst = if is_some inst.result then Some next else None
+
+-- a line by its place: which instruction it is, and which register it gives
+pub plain_from : (next : ℕ) (insts : List Instruction) (place : ℕ) (line : Line) → slice_get (plain_lines next insts) place ≡ Some line
+    → (slice_get insts place ≡ Some line.inst) × (line.to ≡ given_from (after_all next (take place insts)) line.inst)
+plain_from next [] place line is = absurd (none-some line is)
+plain_from next (inst ∷ insts) zero line is =
+    let same = same_Some (numbered next inst) line is in
+    (ap (λ (l : Line). Some l.inst) same, subst (λ (l : Line). l.to ≡ given_from next l.inst) same refl)
+plain_from next (inst ∷ insts) (suc place) line is = plain_from (following next inst) insts place line is
+
+pub phi_count_is : (next : ℕ) (insts : List Instruction) → phi_count (plain_lines next insts) ≡ phis_of insts
+phi_count_is next [] = refl
+phi_count_is next (inst ∷ insts) = ap (λ n. if is_phi inst.op then 1 + n else 0) (phi_count_is (following next inst) insts)
 
 pub line_is : (lines : List Line) (place : ℕ) (line : Line) → slice_get lines place ≡ Some line → line_in lines place ≡ line
 line_is lines place line stands = get_or_from_slice_get lines place line no_line stands
@@ -83,3 +107,11 @@ line_is lines place line stands = get_or_from_slice_get lines place line no_line
 pub given_is : (to : Option ℕ) (value : ℕ) → is_given to value ≡ true → to ≡ Some value
 given_is None value is = absurd (false≢true is)
 given_is (Some own) value is = ap Some (eqb-true own value is)
+
+-- a branch takes its first label or its second
+pub branch_within : (datum : Datum) → branch_taken datum < 2
+branch_within datum = by (is_set datum)
+  where
+    by : (t : Bool) → (if t then 0 else 1) < 2
+    by true = omega arith
+    by false = omega arith

@@ -5,7 +5,7 @@ use Rattle.std.specs.List.{concat}
 use Rattle.std.proofs.lemmas.List.{reverse-append}
 use Rattle.std.proofs.lemmas.List.Folds.{concat-append}
 use Rattle.sp_ids.specs.declared.ends.End.{End}
-use Rattle.object_meaning.specs.Effects.{Effect, goes_on, prints, ends, Progress, after, printed_line, text_of}
+use Rattle.object_meaning.specs.Effects.{Effect, goes_on, prints, ends, Progress, after, printed_line, text_of, PrintsMore}
 use Rattle.object_meaning.specs.Outcomes.{Outcome, Gives, accesses_from, events_from, opening, outcome_of, proceeds, whole_text}
 use Rattle.object_meaning.specs.Runs.{Next, Go, End as Over, goes, Ends, Reaches}
 use Rattle.object_meaning.specs.States.{State, Setting}
@@ -68,13 +68,9 @@ gives_final setting input outcome gives =
 
 -- ---- what is printed on the way
 
-pub record PrintsMore (now last : List (List ℕ)) : Type 0 where
-  pub more : List ℕ
-  pub text : text_of last ≡ text_of now ++ more
-
-same_lines : (end other : End) (state : State) (lines : List (List ℕ)) (last : Progress State)
+pub same_lines : {S : Type 0} (end other : End) (state : S) (lines : List (List ℕ)) (last : Progress S)
     → Over end (record { state = state; lines = lines }) ≡ Over other last → last.lines ≡ lines
-same_lines end other state lines last is = sym (ap (λ (p : Progress State). p.lines) (same_over end other (record { state = state; lines = lines }) last is).last)
+same_lines {S} end other state lines last is = sym (ap (λ (p : Progress S). p.lines) (same_over end other (record { state = state; lines = lines }) last is).last)
 
 pub more_lines : (lines : List (List ℕ)) (line : List ℕ) (last : List (List ℕ)) → PrintsMore (line ∷ lines) last → PrintsMore lines last
 more_lines lines line last printed = record { more = line ++ printed.more; text = printed.text ∙ append_assoc (text_of lines) line printed.more }

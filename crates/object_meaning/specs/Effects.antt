@@ -1,5 +1,5 @@
 -- What a step does, on states of any kind, and the run of such steps with the lines that they print.
-use Rattle.std.specs.Prelude.{ℕ, List, ◌∷◌, ◌++◌, [], min, length, ◌-◌, ◌^◌}
+use Rattle.std.specs.Prelude.{◌≡◌, ℕ, List, ◌∷◌, ◌++◌, [], min, length, ◌-◌, ◌^◌}
 use Rattle.std.specs.Fmt.{signed_decimal}
 use Rattle.sp_ids.specs.Numbers.{signed}
 use Rattle.sp_ids.specs.declared.ends.End.{End}
@@ -32,6 +32,11 @@ after lines (ends end state) = Over end (record { state = state; lines = lines }
 abbrev pub text_of : List (List ℕ) → List ℕ
 text_of [] = []
 text_of (line ∷ lines) = text_of lines ++ line
+
+-- what these lines print first, those print too, and this more behind it
+pub record PrintsMore (now last : List (List ℕ)) : Type 0 where
+  pub more : List ℕ
+  pub text : text_of last ≡ text_of now ++ more
 
 -- how many there are; the count stands still at 2^64 - 1
 abbrev pub line_count : List (List ℕ) → ℕ

@@ -1,8 +1,9 @@
 -- The run of a setting for an input, and what it gives.
-use Rattle.std.specs.Prelude.{◌≡◌, ℕ, ℤ, List, [], ◌∷◌, ◌++◌, reverse}
+use Rattle.std.specs.Prelude.{◌≡◌, ℕ, ℤ, List, [], ◌∷◌, ◌++◌, map, reverse}
 use Rattle.std.specs.List.{concat}
 use Rattle.sp_ids.specs.declared.ends.End.{End}
-use Rattle.ir_ast.specs.Objects.{Object}
+use Rattle.ir_ast.specs.Layouts.{ObjectLayout}
+use Rattle.ir_ast.specs.Objects.{Object, footprint}
 use Rattle.object_meaning.specs.Runs.{Next, Go, Ends}
 use Rattle.object_meaning.specs.States.{State, Setting}
 use Rattle.object_meaning.specs.Effects.{Progress, after, line_count}
@@ -42,6 +43,10 @@ pub record Outcome : Type 0 where
   pub happened : List Event
   pub accesses : List Access
   pub objects : List Object
+
+-- the footprints of objects, by number
+abbrev pub sizes_in : List ObjectLayout → List Object → List ℕ
+sizes_in layouts objects = map (footprint layouts) objects
 
 abbrev pub whole_text : Outcome → List ℕ
 whole_text outcome = concat outcome.lines

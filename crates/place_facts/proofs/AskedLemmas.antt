@@ -1,5 +1,5 @@
 -- Questions that were asked, a question at a time.
-use Rattle.std.proofs.Common.{◌≡◌, ◌∙◌, ◌⊎◌, inl, inr, ℕ, zero, suc, ◌+◌, cond, Bool, true, false, List, [], ◌∷◌, ◌++◌, Option, Some, None, refl, ap, sym, subst, slice_get, length, arith}
+use Rattle.std.proofs.Common.{◌≡◌, ◌∙◌, ◌⊎◌, inl, inr, ℕ, ◌+◌, cond, Bool, true, false, List, [], ◌∷◌, ◌++◌, Option, Some, None, refl, ap, sym, subst, slice_get, length, arith}
 use Rattle.std.specs.Prelude.{◌==◌, ◌&&◌}
 use Rattle.std.specs.List.{All, AllZip}
 use Rattle.std.specs.Map.{lookup}
@@ -7,6 +7,7 @@ use Rattle.std.proofs.lemmas.Bool.{false≢true, cases_Bool, eqb-true, eq-eqb, a
 use Rattle.std.proofs.lemmas.Option.{none-some, same_Some, slice_get_within}
 use Rattle.list_laws.proofs.Places.{cases_below, get_front, get_last, pushed_cases}
 use Rattle.list_laws.proofs.Contents.{contains_get, get_contained, all_from_at}
+use Rattle.list_laws.proofs.Zips.{zip_at}
 use Rattle.ir_ast.specs.declared.ops.Operand.{Operand}
 use Rattle.ir_ast.specs.declared.ops.Operand.TheVariants as operands
 use Rattle.ir_ast.specs.Funcs.{Function}
@@ -157,13 +158,6 @@ asked_more func questions count question old new at (inr has) knows =
 pub all_askable : (func : Function) (questions : List Question) (count : ℕ) (asked : Asked) → KnowsAsks func questions count asked → All (asks.IsAskable func) asked.asks.items
 all_askable func questions count asked knows = all_from_at (asks.IsAskable func) asked.asks.items knows.can_ask
 
-zipped : {A B : Type 0} (R : A → B → Type 0) (xs : List A) (ys : List B) (k : ℕ) (x : A) → AllZip R xs ys → slice_get xs k ≡ Some x
-    → (y : B) × (slice_get ys k ≡ Some y) × R x y
-zipped R [] ys k x all at = absurd (none-some x at)
-zipped R (first ∷ xs) [] k x all at = absurd all
-zipped R (first ∷ xs) (own ∷ ys) zero x all at = (own, refl, subst (λ one. R one own) (same_Some first x at) all.0)
-zipped R (first ∷ xs) (own ∷ ys) (suc k) x all at = zipped R xs ys k x all.1 at
-
 answered_by : (func : Function) (question : Question) (ask : Ask) (answer : Bool) → AsksFor func question ask → asks.IsAnswered func ask answer → IsAnswered func question answer
 answered_by func question ask true asks_for is = asks_for.stands is
 answered_by func question ask false asks_for is = asks_for.misses is
@@ -182,7 +176,7 @@ all_answered func questions facts knows all = record {
         → (answer : Bool) × (slice_get facts.answers number ≡ Some answer) × IsTold func questions question answer
     at_number question number is =
         let asked_as = knows.told question number is in
-        let found = zipped (asks.IsAnswered func) facts.asked.asks.items facts.answers number asked_as.ask all asked_as.stands in (
+        let found = zip_at (asks.IsAnswered func) facts.asked.asks.items facts.answers number asked_as.ask all asked_as.stands in (
           found.0,
           found.1,
           record {

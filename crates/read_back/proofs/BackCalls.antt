@@ -1,6 +1,6 @@
 -- The calls that a module is printed with agree with the heads of what they call, and each statepoint has as many arguments
 -- as it counts.
-use Rattle.std.proofs.Common.{◌≡◌, ◌≢◌, ◌∙◌, inl, inr, ℕ, suc, pos, ◌^◌, ◌≤◌, Bool, true, false, not, ◌&&◌, ◌||◌, if◌then◌else◌, List, [], ◌∷◌, ◌++◌, map, length, drop, refl, ap, sym, subst, arith, codes}
+use Rattle.std.proofs.Common.{◌≡◌, ◌∙◌, inl, inr, ℕ, suc, pos, ◌^◌, ◌≤◌, Bool, true, false, not, ◌&&◌, ◌||◌, if◌then◌else◌, List, [], ◌∷◌, ◌++◌, map, length, drop, refl, ap, sym, subst, arith, codes}
 use Rattle.std.specs.Prelude.{Option, Some, None, take, slice_get, option_map}
 use Rattle.std.specs.Option.{option_map_or}
 use Rattle.std.specs.Str.{bytes_eq}
@@ -10,7 +10,6 @@ use Rattle.std.proofs.lemmas.Option.{same_Some, slice_get_within}
 use Rattle.std.proofs.lemmas.List.Elements.{recursion_from_All, All-contains}
 use Rattle.std.proofs.lemmas.Bool.{lt-ltb, and_from, or_right}
 use Rattle.std.proofs.lemmas.Bool.Decides.{Decides-eqb}
-use Rattle.std.proofs.lemmas.Slice.Eq.{bytes_eq-Decides}
 use Rattle.sp_ids.specs.declared.ids.FuncId.{FuncId}
 use Rattle.sp_ids.specs.declared.ids.BlockId.{BlockId}
 use Rattle.ir_ast.specs.declared.modules.Form.{Form}
@@ -58,7 +57,7 @@ use Rattle.module_laws.proofs.LawHeads.{HeadFrom, from_definition, from_declarat
 use Rattle.read_back.specs.Said.{word_of, literal_of, argument_says, passed_says, parameter_says, made_says, statepoint_says, step_says, return_says, case_says, operator_says, said_by}
 use Rattle.read_back.proofs.Cells.{cell_reads}
 use Rattle.read_back.proofs.BackLines.{said}
-use Rattle.read_back.proofs.BackLists.{CalleeBelow}
+use Rattle.read_back.proofs.BackLists.{CalleeBelow, other_name}
 use Rattle.read_back.proofs.BackInsts.{IsPrintedIn, passing, guards}
 use Rattle.read_back.proofs.Fronts.{zip_take}
 use Rattle.read_back.proofs.BackSections.{SaysDefinition}
@@ -67,7 +66,6 @@ use Rattle.read_back.proofs.BackFaults.{Each, IfDeclares, each_declaration, line
 use Rattle.read_back.proofs.BackTops.{definitions_free}
 use Rattle.read_back.proofs.BackHeads.{declares_external}
 use Rattle.read_back.proofs.BackUnknown.{HeadFound, Knows, some_block, knows, callee_found, is_called}
-use Rattle.ir_resolve.proofs.Booleans.{not-true}
 use Rattle.text_resolve.proofs.ExternalLemmas.{same_types-self, same_type-self}
 use Rattle.list_laws.proofs.Booleans.{and_three}
 
@@ -206,9 +204,6 @@ agree scope name defined answer passed s =
     ∙ and_from (same_type answer s.head.answer) (same_types (map passed_type passed) s.head.parameters)
     (ap (same_type answer) s.answers ∙ same_type-self answer)
     (ap (same_types (map passed_type passed)) s.takes ∙ same_types-self (map passed_type passed))
-
-other_name : (name due : List ℕ) → name ≢ due → bytes_eq name due ≡ false
-other_name name due other = not-true (bytes_eq name due) (λ is. other ((bytes_eq-Decides name due).0 is))
 
 -- what is asked of the calls of one name only
 not_asked : (due name : List ℕ) (b : Bool) → bytes_eq name due ≡ false → (not (bytes_eq name due) || b) ≡ true

@@ -24,12 +24,12 @@ use Rattle.ir_printer.specs.Calls.{callee_name}
 use Rattle.line_parts.specs.Lists.{Given}
 use Rattle.ir_lines.specs.Statements.{Line}
 use Rattle.ir_lines.specs.Parts.{live_use, token_use, index_use}
-use Rattle.ir_lines.specs.Modules.{Known, type_of, instruction_said, passed_operand, used_operand, given_type, callee_of, wrapped}
-use Rattle.read_back.specs.Said.{word_of, literal_of, result_of, value_says, passed_says, token_says, number_says, statepoint_says, gc_result_says, gc_relocate_says}
+use Rattle.ir_lines.specs.Modules.{Known, type_of, instruction_said, passed_operand, used_operand, kept_entry, given_type, callee_of, wrapped}
+use Rattle.read_back.specs.Said.{word_of, literal_of, result_of, value_says, passed_says, kept_says, token_says, number_says, statepoint_says, gc_result_says, gc_relocate_says}
 use Rattle.read_back.proofs.BackLiterals.{literal-back}
-use Rattle.read_back.proofs.BackNames.{Setting, Good, operand-back}
-use Rattle.read_back.proofs.BackLines.{at, same-inst, result-is, pointer-is, word-type}
-use Rattle.read_back.proofs.BackLists.{Passes, passed_is, NamesAreFree, CalleeBelow, callee-back, answer-type}
+use Rattle.read_back.proofs.BackNames.{Setting, Good, IsKept, operand-back}
+use Rattle.read_back.proofs.BackLines.{at, by_parts, same-inst, result-is, pointer-is, word-type}
+use Rattle.read_back.proofs.BackLists.{Passes, passed_is, NamesAreFree, CalleeBelow, callee-back, kept-back, answer-type}
 use Rattle.read_back.proofs.Fronts.{zip_take}
 
 -- ---- statepoints
@@ -45,10 +45,10 @@ live-back names known s (o ∷ os) good =
     ∙ ap (λ (xs : List Operand). o ∷ xs) (live-back names known s os good.1)
 
 pub statepoint-back : (names : Names) (known : Known) → Setting names known → NamesAreFree names → (id : ℕ) (callee : Callee) (ts : List Ty) (rest : List Line) (inst : Instruction)
-    → ops.Statepoint id callee ts ≡ inst.op → IsStatepoint callee ts inst → inst.bundle ≡ [] → id < 2 ^ 64 → CalleeBelow names callee
+    → ops.Statepoint id callee ts ≡ inst.op → IsStatepoint callee ts inst → AllByRecursion (IsKept names) inst.bundle → id < 2 ^ 64 → CalleeBelow names callee
     → AllZip (Passes names) (take (length ts) inst.operands) ts → AllByRecursion (λ (o : Operand). Good names o tys.Ptr) (drop (length ts) inst.operands)
     → instruction_said known rest (statepoint_says names id callee ts inst) ≡ Some inst
-statepoint-back names known s free id callee ts rest inst o line bundle word below passes entries =
+statepoint-back names known s free id callee ts rest inst o line kept word below passes entries =
     let said : List (Ty × Operand) → List Given = map (λ (argument : Ty × Operand). passed_says names argument.0 argument.1) in
     let arguments : List Operand = take (length ts) inst.operands in
     let live : List Operand = drop (length ts) inst.operands in
@@ -57,8 +57,8 @@ statepoint-back names known s free id callee ts rest inst o line bundle word bel
     let same : zip ts inst.operands ≡ zip ts arguments = sym (zip_take ts inst.operands) in
     let p = passed_is names known s arguments ts passes in
     let number = wrapped 64 (literal_of (signed 64 id)) in
-    same-inst inst (Some (result_of inst)) (ops.Statepoint number (callee_of known (callee_name names callee)) (map given_type givens)) (type_of (word_of inst.ty))
-    (map (passed_operand known) givens ++ lived) []
+    ap (λ (x : Instruction). Some x) (by_parts inst (Some (result_of inst)) (ops.Statepoint number (callee_of known (callee_name names callee)) (map given_type givens)) (type_of (word_of inst.ty))
+    (map (passed_operand known) givens ++ lived) [] (map (kept_entry known) (map (kept_says names) inst.bundle))
     (result-is inst.result line.result)
     (ap (λ (n : ℕ). ops.Statepoint n (callee_of known (callee_name names callee)) (map given_type givens)) (literal-back 64 id (omega arith) (omega arith) word)
     ∙ ap (λ (c : Callee). ops.Statepoint id c (map given_type givens)) (callee-back names known s free callee below)
@@ -68,7 +68,7 @@ statepoint-back names known s free id callee ts rest inst o line bundle word bel
     ∙ ap (λ (os : List Operand). os ++ lived) p.0
     ∙ ap (λ (os : List Operand). arguments ++ os) (live-back names known s live entries)
     ∙ take-append-drop (length ts) inst.operands)
-    (sym line.no_labels) bundle
+    (sym line.no_labels) (kept-back names known s inst.bundle kept))
 
 -- ---- results and relocates
 

@@ -20,7 +20,7 @@ use Rattle.ir_ast.specs.Insts.{Instruction}
 use Rattle.ir_ast.specs.Values.{value_types}
 use Rattle.ir_ast.specs.Types.{is_integer, is_first_class}
 use Rattle.ir_ast.specs.Operands.{is_value, functions_named, layouts_named}
-use Rattle.ir_ast.specs.Lines.{Has, LineOf, Arguments, is_argument, is_element, is_rewritten}
+use Rattle.ir_ast.specs.Lines.{Has, LineOf, Arguments, is_argument, is_bundle, is_element, is_rewritten}
 use Rattle.ir_ast.specs.Widths.{IsWidth, type_widths, operator_widths}
 use Rattle.ir_ast.specs.Faults.TypeClash.{Fits, asked}
 use Rattle.ir_printer.specs.Names.{Names}
@@ -37,11 +37,11 @@ use Rattle.module_laws.proofs.LawCalls.{argument-value}
 use Rattle.ir_printer.specs.Operands.{operand_at, label_at}
 use Rattle.read_back.specs.Said.{width_in, value_at, target_at, operator_says, binary_says, compare_says, convert_says, select_says, phi_says, step_says, load_says, store_says, call_says, statepoint_says, gc_result_says, gc_relocate_says, jump_says, branch_says, case_says, switch_says, return_says}
 use Rattle.ir_cfg.specs.Statepoints.{IdIsWord}
-use Rattle.read_back.proofs.BackNames.{Setting, Good, operand-back, label-back}
+use Rattle.read_back.proofs.BackNames.{Setting, Good, IsKept, operand-back, label-back}
 use Rattle.read_back.proofs.BackLines.{said, cons_parts, single, same-inst, no_result, integer-is, integer-word, void-is, binary-back, compare-back, convert-back, select-back, load-back, store-back, step-back, jump-back, branch-back, return-back}
 use Rattle.read_back.proofs.BackLists.{Below, each_given, phi-back, Passes, NamesAreFree, CalleeBelow, call-back, Cases, cases-back}
 use Rattle.read_back.proofs.BackGroups.{statepoint-back, result-back, relocate-back}
-use Rattle.read_back.proofs.Fronts.{FunctionsOf, front_fit, front_functions}
+use Rattle.read_back.proofs.Fronts.{FunctionsOf, before_bundle, front_fit, front_functions}
 use Rattle.std.proofs.lemmas.List.{nil_from_length}
 use Rattle.list_laws.proofs.Booleans.{first_true, second_true}
 
@@ -57,7 +57,8 @@ pub record IsPrintedIn (of : TextForm) (names : Names) (op : Op) (inst : Instruc
   pub layouts : AllByRecursion (λ layout. layout < length names.layouts) (layouts_named (record inst { op = op }))
   pub functions : AllByRecursion (λ named. named < length names.funcs) (functions_named (record inst { op = op }))
   pub place : (layout width n : ℕ) → op ≡ ops.Gep (elements.Layout layout) width (Some n) → n < 2 ^ 32
-  pub bundle : inst.bundle ≡ []
+  pub bundle : AllByRecursion (λ entry. Fits (value_types names.func) entry.1 entry.0) inst.bundle
+  pub bundle_widths : AllByRecursion IsWidth (flat_map (λ entry. type_widths entry.0) inst.bundle)
   pub id : IdIsWord op
 
 -- and a source module
@@ -143,11 +144,28 @@ callee_parts names callees.Poll ts inst layouts functions = (tt, functions)
 callee_parts names callees.Check ts inst layouts functions = (tt, functions)
 callee_parts names callees.Same ts inst layouts functions = (tt, functions)
 
--- those that an instruction without a bundle passes
-pub passed_functions : (P : ℕ → Type 0) (inst : Instruction) → inst.bundle ≡ [] → AllByRecursion P (functions_named (record inst { op = ops.Load })) → FunctionsOf P inst.operands
-passed_functions P inst bundle all =
-    subst (λ (b : List (Ty × Operand)). AllByRecursion P
-    (functions_named (record { result = inst.result; op = ops.Load; ty = inst.ty; operands = inst.operands; labels = inst.labels; bundle = b }))) bundle all
+-- those that an instruction passes, among those that it names
+pub passed_functions : (P : ℕ → Type 0) (inst : Instruction) → AllByRecursion P (functions_named (record inst { op = ops.Load })) → FunctionsOf P inst.operands
+passed_functions P inst all = before_bundle P inst.operands inst.bundle all
+
+-- ---- what is kept
+
+-- each entry of a bundle
+pub kept_of : {of : TextForm} (names : Names) (op : Op) (inst : Instruction) → IsPrintedIn of names op inst → is_bundle inst.bundle ≡ true → AllByRecursion (IsKept names) inst.bundle
+kept_of names op inst p is = by inst.bundle is p.bundle p.bundle_widths
+  where
+    by : (bundle : List (Ty × Operand)) → is_bundle bundle ≡ true → AllByRecursion (λ (entry : Ty × Operand). Fits (value_types names.func) entry.1 entry.0) bundle
+        → AllByRecursion IsWidth (flat_map (λ (entry : Ty × Operand). type_widths entry.0) bundle) → AllByRecursion (IsKept names) bundle
+    by [] is fits widths = tt
+    by (entry ∷ bundle) is fits widths =
+        let here = first_true (is_first_class entry.0 && is_value entry.1) (is_bundle bundle) is in
+        let w = split_all IsWidth (type_widths entry.0) (flat_map (λ (one : Ty × Operand). type_widths one.0) bundle) widths in (
+          record {
+            good = record { fits = fits.0; value = second_true (is_first_class entry.0) (is_value entry.1) here; widths = All-from_recursion IsWidth (type_widths entry.0) w.0 };
+            first_class = first_true (is_first_class entry.0) (is_value entry.1) here;
+          },
+          by bundle (second_true (is_first_class entry.0 && is_value entry.1) (is_bundle bundle) is) fits.1 w.1,
+        )
 
 -- what a call calls, and the arguments that it passes
 pub record Passing (names : Names) (callee : Callee) (ts : List Ty) (os : List Operand) : Type 0 where
@@ -160,7 +178,7 @@ passing names callee ts inst p =
     let parts = callee_parts names callee ts inst p.layouts p.functions in
     record {
       below = parts.0;
-      passes = passes_zip names callee inst.operands ts p.fits p.line.arguments (passed_functions (λ named. named < length names.funcs) inst p.bundle parts.1)
+      passes = passes_zip names callee inst.operands ts p.fits p.line.arguments (passed_functions (λ named. named < length names.funcs) inst parts.1)
           (recursion_from_All IsWidth (flat_map type_widths ts) p.own_widths);
     }
 
@@ -183,7 +201,7 @@ guards names id callee ts inst p =
     let n = length ts in
     let entries = length inst.operands - n in
     let fits = front_fit (Fits (value_types names.func)) inst.operands ts (replicate entries tys.Ptr) p.fits in
-    let functions = front_functions (λ named. named < length names.funcs) n inst.operands (passed_functions (λ named. named < length names.funcs) inst p.bundle parts.1) in
+    let functions = front_functions (λ named. named < length names.funcs) n inst.operands (passed_functions (λ named. named < length names.funcs) inst parts.1) in
     record {
       below = parts.0;
       fits = fits.0;
@@ -195,13 +213,13 @@ call_case : {of : TextForm} (names : Names) (known : Known) → Setting names kn
     → (rest : List Line) → instruction_said known rest (call_says names callee ts inst) ≡ Some inst
 call_case names known s free callee ts inst p rest =
     let own = passing names callee ts inst p in
-    call-back names known s free callee ts rest inst p.is p.line p.bundle own.below own.passes
+    call-back names known s free callee ts rest inst p.is p.line (kept_of names (ops.Call callee ts) inst p p.line.bundle) own.below own.passes
 
 statepoint_case : {of : TextForm} (names : Names) (known : Known) → Setting names known → NamesAreFree names → (id : ℕ) (callee : Callee) (ts : List Ty) (inst : Instruction) → IsPrintedIn of names (ops.Statepoint id callee ts) inst
     → (rest : List Line) → instruction_said known rest (statepoint_says names id callee ts inst) ≡ Some inst
 statepoint_case names known s free id callee ts inst p rest =
     let g = guards names id callee ts inst p in
-    statepoint-back names known s free id callee ts rest inst p.is p.line p.bundle p.id g.below g.passes g.live
+    statepoint-back names known s free id callee ts rest inst p.is p.line (kept_of names (ops.Statepoint id callee ts) inst p p.line.bundle) p.id g.below g.passes g.live
 
 -- ---- switches
 
@@ -340,9 +358,9 @@ inst-back names known s free ops.Switch inst p here rest e =
     (same_good names inst (length inst.operands) refl p.line.0.values p.widths p.fits) p.labels here rest e
 inst-back names known s free ops.Ret inst p here rest e =
     single known here rest (return_says names inst.ty inst) inst e
-    (return-back names known s rest inst p.is p.line.result p.line.type p.line.operand_count (nil_from_length inst.labels p.line.label_count) p.bundle
+    (return-back names known s rest inst p.is p.line.result p.line.type p.line.operand_count (nil_from_length inst.labels p.line.label_count) p.line.no_bundle
     (same_good names inst (length inst.operands) refl p.line.values p.widths p.fits))
 inst-back names known s free ops.Unreachable inst p here rest e =
     single known here rest unreachable inst e
     (same-inst inst None ops.Unreachable tys.Void [] [] (no_result inst.result p.line.result) p.is (void-is inst.ty p.line.type)
-    (sym (nil_from_length inst.operands p.line.operand_count)) (sym (nil_from_length inst.labels p.line.label_count)) p.bundle)
+    (sym (nil_from_length inst.operands p.line.operand_count)) (sym (nil_from_length inst.labels p.line.label_count)) p.line.no_bundle)

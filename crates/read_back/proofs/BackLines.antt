@@ -46,16 +46,25 @@ single known (l ∷ []) rest s inst e is =
 single known (l ∷ m ∷ ls) rest s inst e is = absurd (let bad : l.says ∷ m.says ∷ said ls ≡ s ∷ [] = e in grind (arith, ap length bad))
 
 -- an instruction by its parts
+abbrev of_parts : Option (List ℕ) → Op → Ty → List Operand → List BlockId → List (Ty × Operand) → Instruction
+of_parts result op ty operands labels bundle = record { result = result; op = op; ty = ty; operands = operands; labels = labels; bundle = bundle }
+
+pub by_parts : (inst : Instruction) (result : Option (List ℕ)) (op : Op) (ty : Ty) (os : List Operand) (labels : List BlockId) (bundle : List (Ty × Operand))
+    → result ≡ inst.result → op ≡ inst.op → ty ≡ inst.ty → os ≡ inst.operands → labels ≡ inst.labels → bundle ≡ inst.bundle
+    → of_parts result op ty os labels bundle ≡ inst
+by_parts inst result op ty os labels bundle r o t p l b =
+    ap (λ (x : Option (List ℕ)). of_parts x op ty os labels bundle) r
+    ∙ ap (λ (x : Op). of_parts inst.result x ty os labels bundle) o
+    ∙ ap (λ (x : Ty). of_parts inst.result inst.op x os labels bundle) t
+    ∙ ap (λ (x : List Operand). of_parts inst.result inst.op inst.ty x labels bundle) p
+    ∙ ap (λ (x : List BlockId). of_parts inst.result inst.op inst.ty inst.operands x bundle) l
+    ∙ ap (λ (x : List (Ty × Operand)). of_parts inst.result inst.op inst.ty inst.operands inst.labels x) b
+
+-- and one that keeps nothing
 pub same-inst : (inst : Instruction) (result : Option (List ℕ)) (op : Op) (ty : Ty) (os : List Operand) (labels : List BlockId)
     → result ≡ inst.result → op ≡ inst.op → ty ≡ inst.ty → os ≡ inst.operands → labels ≡ inst.labels → inst.bundle ≡ []
     → Some (instruction result op ty os labels) ≡ Some inst
-same-inst inst result op ty os labels r o t p l b =
-    ap (λ (x : Option (List ℕ)). Some (instruction x op ty os labels)) r
-    ∙ ap (λ (x : Op). Some (instruction inst.result x ty os labels)) o
-    ∙ ap (λ (x : Ty). Some (instruction inst.result inst.op x os labels)) t
-    ∙ ap (λ (x : List Operand). Some (instruction inst.result inst.op inst.ty x labels)) p
-    ∙ ap (λ (x : List BlockId). Some (instruction inst.result inst.op inst.ty inst.operands x)) l
-    ∙ ap (λ (x : List (Ty × Operand)). Some (record { result = inst.result; op = inst.op; ty = inst.ty; operands = inst.operands; labels = inst.labels; bundle = x })) (sym b)
+same-inst inst result op ty os labels r o t p l b = ap (λ (x : Instruction). Some x) (by_parts inst result op ty os labels [] r o t p l (sym b))
 
 pub result-is : (o : Option (List ℕ)) → is_some o ≡ true → Some (unwrap_or o []) ≡ o
 result-is (Some name) e = refl

@@ -1,7 +1,9 @@
 -- Instructions with lists: phis, calls, and switches with their cases.
-use Rattle.std.proofs.Common.{◌≡◌, ◌∙◌, ℕ, ◌<◌, true, false, ◌&&◌, inl, inr, List, [], ◌∷◌, ◌++◌, map, length, replicate, refl, ap, sym, subst, arith, codes}
+use Rattle.std.proofs.Common.{◌≡◌, ◌∙◌, ◌≢◌, ℕ, zero, suc, ◌<◌, Bool, true, false, ◌&&◌, inl, inr, if◌then◌else◌, List, [], ◌∷◌, ◌++◌, map, length, replicate, refl, ap, sym, subst, arith, codes}
 use Rattle.std.specs.Prelude.{Some, None, filter_map, ⊤, ◌⊎◌}
 use Rattle.std.specs.List.{All, AllByRecursion, AllZip, zip}
+use Rattle.std.specs.Str.{bytes_eq}
+use Rattle.std.proofs.lemmas.Slice.Eq.{bytes_eq-Decides}
 use Rattle.sp_ids.specs.declared.ids.BlockId.{BlockId}
 use Rattle.sp_ids.specs.declared.ids.FuncId.{FuncId}
 use Rattle.ir_ast.specs.declared.types.Ty.{Ty}
@@ -15,6 +17,8 @@ use Rattle.ir_ast.specs.Insts.{Instruction}
 use Rattle.ir_ast.specs.Values.{value_types}
 use Rattle.ir_ast.specs.Types.{is_integer, is_first_class, is_answer}
 use Rattle.ir_ast.specs.Operands.{is_value}
+use Rattle.ir_ast.specs.Callees.{is_leaf}
+use Rattle.ir_ast.specs.Funcs.{Function}
 use Rattle.ir_ast.specs.Lines.{Has, IsCall}
 use Rattle.ir_ast.specs.Widths.{IsWidth, type_widths}
 use Rattle.ir_ast.specs.Faults.TypeClash.{Fits}
@@ -22,15 +26,17 @@ use Rattle.ir_ast.specs.Faults.Reserved.{IsExternalName}
 use Rattle.ir_printer.specs.Names.{Names, function_name, layout_name}
 use Rattle.ir_printer.specs.Calls.{callee_name}
 use Rattle.line_parts.specs.Types.{TypeWord}
-use Rattle.ir_lines.specs.Statements.{Line, Statement, switch_end}
+use Rattle.line_parts.specs.Parts.{Val}
+use Rattle.ir_lines.specs.Statements.{Line, Statement, switch_end, is_leaf_name}
 use Rattle.ir_lines.specs.Sections.{cases_of}
 use Rattle.ir_lines.specs.Places.{place_in, number_of}
-use Rattle.ir_lines.specs.Modules.{Known, type_of, operand_in, instruction_said, insts_of, entry_operand, entry_label, passed_operand, given_type, callee_of, callee_at, case_value, case_label}
+use Rattle.ir_lines.specs.Modules.{Known, type_of, operand_in, instruction_said, insts_of, entry_operand, entry_label, passed_operand, kept_entry, given_type, callee_of, callee_at, case_value, case_label}
 use Rattle.module_laws.proofs.LawBodies.{insts-cons}
-use Rattle.read_back.specs.Said.{word_of, width_in, result_of, value_says, entry_says, phi_says, passed_says, call_says, case_says}
-use Rattle.read_back.proofs.BackNames.{Setting, Good, operand-back, label-back, layout-number, function-placed, function-number, unplaced-by}
-use Rattle.read_back.proofs.BackLines.{said, cons_parts, same-inst, result-is, integer-word, word-type}
+use Rattle.read_back.specs.Said.{word_of, width_in, result_of, value_says, entry_says, phi_says, passed_says, kept_says, call_says, case_says}
+use Rattle.read_back.proofs.BackNames.{Setting, Good, IsKept, operand-back, label-back, layout-number, function-placed, function-number, unplaced-by}
+use Rattle.read_back.proofs.BackLines.{said, cons_parts, by_parts, same-inst, result-is, integer-word, word-type}
 use Rattle.list_laws.proofs.Booleans.{first_true, second_true}
+use Rattle.ir_resolve.proofs.Booleans.{not-true}
 
 -- ---- phis
 
@@ -133,7 +139,7 @@ not_function : (names : Names) (known : Known) → Setting names known → Names
 not_function names known s free name external =
     ap (λ (ns : List (List ℕ)). place_in ns name) s.functions ∙ unplaced-by (map (λ func. func.name) names.funcs) name (each names.funcs free)
   where
-    each : (fs : List Rattle.ir_ast.specs.Funcs.Function) → AllByRecursion (λ func. ¬ (IsExternalName func.name)) fs
+    each : (fs : List Function) → AllByRecursion (λ func. ¬ (IsExternalName func.name)) fs
         → AllByRecursion (λ one. ¬ (one ≡ name)) (map (λ func. func.name) fs)
     each [] free = tt
     each (f ∷ fs) free = (λ e. free.0 (subst IsExternalName (sym e) external), each fs free.1)
@@ -173,18 +179,75 @@ answer-type (tys.Int w) e = refl
 answer-type tys.Ptr e = refl
 answer-type tys.Token e = absurd (let bad : false ≡ true = e in cc)
 
+-- an entry of a bundle is what was printed of it
+pub kept-back : (names : Names) (known : Known) → Setting names known → (bundle : List (Ty × Operand)) → AllByRecursion (IsKept names) bundle
+    → map (kept_entry known) (map (kept_says names) bundle) ≡ bundle
+kept-back names known s [] kept = refl
+kept-back names known s (entry ∷ bundle) kept =
+    let rest = map (kept_entry known) (map (kept_says names) bundle) in
+    ap (λ (t : Ty). (t, operand_in known.values (word_of entry.0) (value_says names entry.0 entry.1)) ∷ rest) (word-type entry.0 kept.0.first_class)
+    ∙ ap (λ (o : Operand). (entry.0, o) ∷ rest) (operand-back names known s entry.0 entry.1 kept.0.good)
+    ∙ ap (λ (more : List (Ty × Operand)). entry ∷ more) (kept-back names known s bundle kept.1)
+
+-- ---- which calls keep their bundle
+
+free_at : (fs : List Function) (k : ℕ) → AllByRecursion (λ (func : Function). ¬ (IsExternalName func.name)) fs → k < length fs → ¬ (IsExternalName (function_name fs k))
+free_at [] k free below = absurd (omega arith)
+free_at (f ∷ fs) zero free below = free.0
+free_at (f ∷ fs) (suc k) free below = free_at fs k free.1 (omega arith)
+
+pub other_name : (name due : List ℕ) → name ≢ due → bytes_eq name due ≡ false
+other_name name due other = not-true (bytes_eq name due) (λ is. other ((bytes_eq-Decides name due).0 is))
+
+-- the name of a function of the module, or that of another external, is no leaf's
+not_leaf : (names : Names) → NamesAreFree names → (callee : Callee) → CalleeBelow names callee → is_leaf callee ≡ false → is_leaf_name (callee_name names callee) ≡ false
+not_leaf names free (callees.Fun func) below other =
+    let name = function_name names.funcs func.0 in
+    let own : ¬ (IsExternalName name) = free_at names.funcs func.0 free below in
+    rw (
+      other_name name (codes "print_i64") (λ same. own (inl (0, omega arith, sym same))),
+      other_name name (codes "read_i64") (λ same. own (inl (1, omega arith, sym same))),
+      other_name name (codes "gc_check") (λ same. own (inl (4, omega arith, sym same))),
+      other_name name (codes "gc_same") (λ same. own (inl (5, omega arith, sym same))),
+    ) refl
+not_leaf names free (callees.New layout) below other = refl
+not_leaf names free callees.TaskStart below other = refl
+not_leaf names free callees.Poll below other = refl
+not_leaf names free callees.Print below other = absurd (let bad : true ≡ false = other in cc)
+not_leaf names free callees.Read below other = absurd (let bad : true ≡ false = other in cc)
+not_leaf names free callees.Check below other = absurd (let bad : true ≡ false = other in cc)
+not_leaf names free callees.Same below other = absurd (let bad : true ≡ false = other in cc)
+
+none_of_none : (b : Bool) (kept : List (Val × TypeWord)) → kept ≡ [] → (if b then [] else kept) ≡ kept
+none_of_none true kept none = sym none
+none_of_none false kept none = refl
+
+-- what a printed call says that it keeps, it keeps: a leaf has nothing
+pub kept_is : (names : Names) → NamesAreFree names → (callee : Callee) (inst : Instruction) → CalleeBelow names callee → (is_leaf callee ≡ true → inst.bundle ≡ [])
+    → (if is_leaf_name (callee_name names callee) then [] else map (kept_says names) inst.bundle) ≡ map (kept_says names) inst.bundle
+kept_is names free callee inst below none = by (is_leaf callee) refl
+  where
+    said : List (Val × TypeWord)
+    said = map (kept_says names) inst.bundle
+
+    by : (leaf : Bool) → is_leaf callee ≡ leaf → (if is_leaf_name (callee_name names callee) then [] else said) ≡ said
+    by true is = none_of_none (is_leaf_name (callee_name names callee)) said (ap (map (kept_says names)) (none is))
+    by false is = ap (λ (b : Bool). if b then [] else said) (not_leaf names free callee below is)
+
 pub call-back : (names : Names) (known : Known) → Setting names known → NamesAreFree names → (callee : Callee) (ts : List Ty) (rest : List Line) (inst : Instruction)
-    → ops.Call callee ts ≡ inst.op → IsCall callee ts inst → inst.bundle ≡ [] → CalleeBelow names callee
+    → ops.Call callee ts ≡ inst.op → IsCall callee ts inst → AllByRecursion (IsKept names) inst.bundle → CalleeBelow names callee
     → AllZip (Passes names) inst.operands ts
     → instruction_said known rest (call_says names callee ts inst) ≡ Some inst
-call-back names known s free callee ts rest inst o call bundle below passes =
+call-back names known s free callee ts rest inst o call kept below passes =
     let givens = map (λ (argument : Ty × Operand). passed_says names argument.0 argument.1) (zip ts inst.operands) in
     let p = passed_is names known s inst.operands ts passes in
-    same-inst inst inst.result (ops.Call (callee_of known (callee_name names callee)) (map given_type givens)) (type_of (word_of inst.ty))
+    ap (λ (x : Instruction). Some x) (by_parts inst inst.result (ops.Call (callee_of known (callee_name names callee)) (map given_type givens)) (type_of (word_of inst.ty))
     (map (passed_operand known) givens) []
+    (map (kept_entry known) (if is_leaf_name (callee_name names callee) then [] else map (kept_says names) inst.bundle))
     refl
     (ap (λ (c : Callee). ops.Call c (map given_type givens)) (callee-back names known s free callee below) ∙ ap (ops.Call callee) p.1 ∙ o)
-    (answer-type inst.ty call.type) p.0 (sym call.no_labels) bundle
+    (answer-type inst.ty call.type) p.0 (sym call.no_labels)
+    (ap (map (kept_entry known)) (kept_is names free callee inst below call.leaf) ∙ kept-back names known s inst.bundle kept))
 
 -- ---- switches
 

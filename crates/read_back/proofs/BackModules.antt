@@ -9,6 +9,7 @@ use Rattle.ir_ast.specs.declared.types.Ty.{Ty}
 use Rattle.ir_ast.specs.declared.funcs.Arg.{Arg}
 use Rattle.ir_ast.specs.declared.modules.Form.{Form}
 use Rattle.ir_ast.specs.declared.modules.Form.TheVariants.{Source, Rewritten}
+use Rattle.ir_ast.specs.declared.ops.Operand.{Operand}
 use Rattle.ir_ast.specs.declared.ops.Op.{Op}
 use Rattle.ir_ast.specs.declared.ops.Op.TheVariants as ops
 use Rattle.ir_ast.specs.declared.ops.Elem.TheVariants as elements
@@ -17,17 +18,16 @@ use Rattle.ir_ast.specs.Blocks.{BasicBlock, EndsAtTerminator}
 use Rattle.ir_ast.specs.Layouts.{ObjectLayout}
 use Rattle.ir_ast.specs.Funcs.{Function, instructions_of}
 use Rattle.ir_ast.specs.Modules.{ModuleContent}
-use Rattle.ir_ast.specs.Values.{argument, outcome, definition_name}
+use Rattle.ir_ast.specs.Values.{argument, outcome, definition_name, value_types}
 use Rattle.ir_ast.specs.Values as defs
 use Rattle.ir_ast.specs.Types.{is_first_class}
 use Rattle.ir_ast.specs.Widths.{IsWidth, type_widths, operator_widths, line_widths, widths_of}
 use Rattle.ir_ast.specs.Operands.{layouts_named, functions_named}
 use Rattle.ir_ast.specs.Faultless.{HasNoFault, FunctionHasNoFault, OfForm}
-use Rattle.ir_ast.specs.Bundles.{HasNoBundle}
 use Rattle.ir_cfg.specs.Limits.{IsWithinLimits}
 use Rattle.ir_cfg.specs.Statepoints.{IdIsWord}
 use Rattle.ir_cfg.specs.TypedModules.{FunctionIsSmall, IsTypedModule}
-use Rattle.ir_ast.specs.Faults.TypeClash.{IsTyped, FunctionIsTyped, RuleOf}
+use Rattle.ir_ast.specs.Faults.TypeClash.{Fits, IsTyped, FunctionIsTyped, RuleOf}
 use Rattle.ir_ast.specs.Faults.Reserved.{IsExternalName, IsSource}
 use Rattle.ir_ast.specs.Faults.UnknownName.{NamesOfFunction, NamesOfModule}
 use Rattle.ir_ast.specs.Lines.{IsLine, is_rewritten}
@@ -75,18 +75,12 @@ small_place content func inst few typed layout width n e named =
     at (l ∷ ls) zero few below rule = let f = few.0 in omega arith
     at (l ∷ ls) (suc k) few below rule = at ls k few.1 (omega arith) rule
 
--- a typed module without bundles
-pub record IsBare (form : Form) (content : ModuleContent) : Type 0 where
-  pub typed : IsTypedModule form content
-  pub no_bundle : All HasNoBundle content.funcs
-
--- what such modules of both forms have
+-- what typed modules of both forms have
 pub record IsShaped (content : ModuleContent) : Type 0 where
   pub no_fault : HasNoFault content
   pub ends : All (λ (func : Function). All (λ (block : BasicBlock). EndsAtTerminator block.insts) func.blocks) content.funcs
   pub lines : All (λ (func : Function). All IsLine (instructions_of func.blocks)) content.funcs
   pub widths : All (λ (func : Function). All IsWidth (widths_of func)) content.funcs
-  pub no_bundle : All HasNoBundle content.funcs
   pub limits : IsWithinLimits content
   pub few : All (λ (func : Function). length (instructions_of func.blocks) < 2 ^ 30) content.funcs
   pub ids : All (λ (func : Function). All (λ (inst : Instruction). IdIsWord inst.op) (instructions_of func.blocks)) content.funcs
@@ -105,19 +99,16 @@ own_ids Source func own small =
     All-weaker (λ (i : Instruction). is_rewritten i.op ≡ false) (λ (i : Instruction). IdIsWord i.op) (λ (i : Instruction) plain. no_id i.op plain) (instructions_of func.blocks) own.0.lines
 own_ids Rewritten func own small = small.ids
 
-pub shaped_of : (form : Form) (content : ModuleContent) → IsBare form content → IsShaped content
-shaped_of form content bare =
-    let typed = bare.typed in
-    record {
-      no_fault = typed.no_fault;
-      ends = λ k d low. (typed.functions k d low).ends;
-      lines = λ k d low. (typed.functions k d low).lines;
-      widths = λ k d low. (typed.functions k d low).widths;
-      no_bundle = bare.no_bundle;
-      limits = typed.limits;
-      few = λ k d low. few_insts form (get_or content.funcs k d) (typed.functions k d low).small;
-      ids = λ k d low. own_ids form (get_or content.funcs k d) (subst (λ (f : Form). OfForm f (get_or content.funcs k d)) typed.of_form (typed.no_fault.functions k d low).form) (typed.functions k d low).small;
-    }
+pub shaped_of : (form : Form) (content : ModuleContent) → IsTypedModule form content → IsShaped content
+shaped_of form content typed = record {
+  no_fault = typed.no_fault;
+  ends = λ k d low. (typed.functions k d low).ends;
+  lines = λ k d low. (typed.functions k d low).lines;
+  widths = λ k d low. (typed.functions k d low).widths;
+  limits = typed.limits;
+  few = λ k d low. few_insts form (get_or content.funcs k d) (typed.functions k d low).small;
+  ids = λ k d low. own_ids form (get_or content.funcs k d) (subst (λ (f : Form). OfForm f (get_or content.funcs k d)) typed.of_form (typed.no_fault.functions k d low).form) (typed.functions k d low).small;
+}
 
 pub printed_in : (of : Form) (content : ModuleContent) → IsShaped content → (func : Function) → Contains content.funcs func
     → (of ≡ Source → All (λ (inst : Instruction). is_rewritten inst.op ≡ false) (instructions_of func.blocks))
@@ -160,16 +151,17 @@ printed_in of content shaped func c plain inst d = one
           functions = recursion_from_All (λ (n : ℕ). n < length content.funcs) (functions_named inst) global.functions;
           place = λ layout width n e. small_place content func inst (recursion_from_All (λ (l : ObjectLayout). length l.fields ≤ 64) content.layouts shaped.limits.fields)
               fit layout width n e named;
-          bundle = All-contains (λ (i : Instruction). i.bundle ≡ []) insts inst (All-contains HasNoBundle content.funcs func shaped.no_bundle c) d;
+          bundle = recursion_from_All (λ (entry : Ty × Operand). Fits (value_types func) entry.1 entry.0) inst.bundle fit.bundle;
+          bundle_widths = two.1;
           id = All-contains (λ (i : Instruction). IdIsWord i.op) insts inst
               (All-contains (λ (f : Function). All (λ (i : Instruction). IdIsWord i.op) (instructions_of f.blocks)) content.funcs func shaped.ids c) d;
         }
 
-printed_inst : (content : ModuleContent) → IsBare Source content → (func : Function) → Contains content.funcs func
+printed_inst : (content : ModuleContent) → IsTypedModule Source content → (func : Function) → Contains content.funcs func
     → (inst : Instruction) → Contains (instructions_of func.blocks) inst → IsPrinted (names_in content func) inst.op inst
 printed_inst content source func c inst d =
-    let clean : FunctionHasNoFault content func = All-contains (FunctionHasNoFault content) content.funcs func source.typed.no_fault.functions c in
-    printed_in Source content (shaped_of Source content source) func c (λ is. (form_of content.form func source.typed.of_form clean.form).lines) inst d
+    let clean : FunctionHasNoFault content func = All-contains (FunctionHasNoFault content) content.funcs func source.no_fault.functions c in
+    printed_in Source content (shaped_of Source content source) func c (λ is. (form_of content.form func source.of_form clean.form).lines) inst d
 
 pub shaped_inst : (content : ModuleContent) → IsShaped content → (func : Function) → Contains content.funcs func
     → (inst : Instruction) → Contains (instructions_of func.blocks) inst → IsPrintedIn content.form (names_in content func) inst.op inst
@@ -190,7 +182,7 @@ pub shaped_insts : (content : ModuleContent) → IsShaped content → (func : Fu
     → AllByRecursion (λ block. AllByRecursion (λ inst. IsPrintedIn content.form (names_in content func) inst.op inst) block.insts) func.blocks
 shaped_insts content shaped func c = each_printed content.form (names_in content func) func (shaped_inst content shaped func c)
 
-pub printed : (content : ModuleContent) → IsBare Source content → (func : Function) → Contains content.funcs func
+pub printed : (content : ModuleContent) → IsTypedModule Source content → (func : Function) → Contains content.funcs func
     → AllByRecursion (λ block. AllByRecursion (λ inst. IsPrinted (names_in content func) inst.op inst) block.insts) func.blocks
 printed content source func c = each_printed Source (names_in content func) func (printed_inst content source func c)
 

@@ -16,6 +16,7 @@ use Rattle.ir_ast.specs.declared.ops.Operand.TheVariants as operands
 use Rattle.ir_ast.specs.Lists.{Distinct}
 use Rattle.ir_ast.specs.Values.{definitions_of, definition_name, definition_type, value_types}
 use Rattle.ir_ast.specs.Operands.{is_value}
+use Rattle.ir_ast.specs.Types.{is_first_class}
 use Rattle.ir_ast.specs.Widths.{IsWidth, type_widths}
 use Rattle.ir_ast.specs.Faults.TypeClash.{Fits}
 use Rattle.ir_printer.specs.Names.{Names, value_name, block_name, function_name, layout_name}
@@ -125,3 +126,8 @@ operand-back names known s tys.Ptr (operands.Int n) g = absurd (let e : tys.Ptr 
 operand-back names known s tys.Token (operands.Int n) g = absurd (let e : tys.Token ≡ tys.Int g.fits.0 = g.fits.1 in cc)
 operand-back names known s ty operands.Null g = refl
 operand-back names known s ty (operands.Fun func) g = absurd (let bad : false ≡ true = g.value in cc)
+
+-- an entry of a "deopt" bundle
+pub record IsKept (names : Names) (entry : Ty × Operand) : Type 0 where
+  pub good : Good names entry.1 entry.0
+  pub first_class : is_first_class entry.0 ≡ true

@@ -6,6 +6,7 @@ use Rattle.std.proofs.lemmas.List.Elements.{All-contains}
 use Rattle.ir_ast.specs.Blocks.{BasicBlock}
 use Rattle.ir_ast.specs.Funcs.{Function}
 use Rattle.ir_ast.specs.Modules.{ModuleContent}
+use Rattle.ir_cfg.specs.TypedModules.{IsTypedModule}
 use Rattle.ir_ast.specs.Lists.{Distinct}
 use Rattle.ir_ast.specs.Values.{definition_name}
 use Rattle.ir_ast.specs.Values as defs
@@ -21,7 +22,7 @@ use Rattle.read_back.specs.Said.{said_by}
 use Rattle.read_back.proofs.BackLines.{said}
 use Rattle.read_back.proofs.BackBlocks.{blocks-are, block-names, value-names}
 use Rattle.read_back.proofs.BackSections.{layout-names}
-use Rattle.read_back.proofs.BackModules.{IsBare, IsShaped, shaped_of, names_in, shaped_insts, form_of}
+use Rattle.read_back.proofs.BackModules.{IsShaped, shaped_of, names_in, shaped_insts, form_of}
 use Rattle.read_back.proofs.BackFaults.{From, printed_from}
 
 -- ---- names that stand once do not repeat
@@ -87,22 +88,22 @@ definitions_free content shaped lines e one c external =
     let o = printed_from content lines e one c in
     All-contains (λ (f : Function). ¬ (IsExternalName f.name)) content.funcs o.func shaped.no_fault.free o.stands (subst IsExternalName o.says.name external)
 
-pub values_free : (content : ModuleContent) → IsBare Source content → (lines : List Line) → said lines ≡ said_by content
+pub values_free : (content : ModuleContent) → IsTypedModule Source content → (lines : List Line) → said lines ≡ said_by content
     → (one : Definition) → Contains (definitions_of lines) one → (value : Naming) → Contains (values_of one) value → ¬ (IsInsertedName value.name)
 values_free content source lines e one c value d inserted =
     let o = printed_from content lines e one c in
-    let plain = form_of content.form o.func source.typed.of_form (All-contains (FunctionHasNoFault content) content.funcs o.func source.typed.no_fault.functions o.stands).form in
+    let plain = form_of content.form o.func source.of_form (All-contains (FunctionHasNoFault content) content.funcs o.func source.no_fault.functions o.stands).form in
     let named : Contains (map definition_name (defs.definitions_of o.func)) value.name =
     subst (λ (ns : List (List ℕ)). Contains ns value.name) (names_of_values content (shaped_of Source content source) one o) (contains_map (λ (v : Naming). v.name) (values_of one) value d) in
     let given = contains_mapped definition_name (defs.definitions_of o.func) value.name named in
     All-contains (λ (g : defs.Definition). ¬ (IsInsertedName (definition_name g))) (defs.definitions_of o.func) given.0 plain.values given.1
     (subst IsInsertedName (sym given.2) inserted)
 
-pub labels_free : (content : ModuleContent) → IsBare Source content → (lines : List Line) → said lines ≡ said_by content
+pub labels_free : (content : ModuleContent) → IsTypedModule Source content → (lines : List Line) → said lines ≡ said_by content
     → (one : Definition) → Contains (definitions_of lines) one → (block : BlockLines) → Contains (blocks_of one) block → ¬ (IsInsertedName block.name)
 labels_free content source lines e one c block d inserted =
     let o = printed_from content lines e one c in
-    let plain = form_of content.form o.func source.typed.of_form (All-contains (FunctionHasNoFault content) content.funcs o.func source.typed.no_fault.functions o.stands).form in
+    let plain = form_of content.form o.func source.of_form (All-contains (FunctionHasNoFault content) content.funcs o.func source.no_fault.functions o.stands).form in
     let named : Contains (map (λ (b : BasicBlock). b.name) o.func.blocks) block.name =
     subst (λ (ns : List (List ℕ)). Contains ns block.name) (names_of_blocks content one o) (contains_map (λ (b : BlockLines). b.name) (blocks_of one) block d) in
     let given = contains_mapped (λ (b : BasicBlock). b.name) o.func.blocks block.name named in

@@ -1,5 +1,5 @@
 -- Each value that a printed line uses is what is printed of an operand, which fits the type that the line asks of it.
-use Rattle.std.proofs.Common.{◌≡◌, ℕ, true, false, if◌then◌else◌, List, [], ◌∷◌, ◌++◌, map, length, drop, replicate, refl, sym, subst, arith}
+use Rattle.std.proofs.Common.{◌≡◌, ℕ, Bool, true, false, if◌then◌else◌, List, [], ◌∷◌, ◌++◌, map, length, drop, replicate, refl, sym, subst, arith}
 use Rattle.std.specs.Prelude.{Option, take, filter_map}
 use Rattle.std.specs.List.{AllByRecursion, AllZip, list_all, zip}
 use Rattle.std.proofs.lemmas.List.Elements.{All-from_recursion, recursion_from_All}
@@ -23,19 +23,20 @@ use Rattle.ir_ast.specs.Values.{value_types}
 use Rattle.ir_ast.specs.Faults.TypeClash.{Fits}
 use Rattle.ir_printer.specs.Names.{Names}
 use Rattle.ir_printer.specs.Operands.{operand_at}
+use Rattle.ir_printer.specs.Calls.{callee_name}
 use Rattle.line_parts.specs.Types.{TypeWord}
 use Rattle.line_parts.specs.Types as types
 use Rattle.line_tokens.specs.declared.words.Binary.TheVariants as binaries
 use Rattle.line_parts.specs.Lists.{Given}
 use Rattle.line_parts.specs.Parts.{Val}
-use Rattle.ir_lines.specs.Statements.{Statement, switch_end}
+use Rattle.ir_lines.specs.Statements.{Statement, switch_end, is_leaf_name}
 use Rattle.ir_lines.specs.Parts.{uses, passed_value, entry_use, live_use, token_use, index_use}
-use Rattle.read_back.specs.Said.{word_of, width_in, value_says, passed_says, value_at, entry_says, binary_says, number_says, token_says, step_says, statepoint_says, gc_relocate_says, case_says, return_says, operator_says}
+use Rattle.read_back.specs.Said.{word_of, width_in, value_says, passed_says, kept_says, call_says, value_at, entry_says, binary_says, number_says, token_says, step_says, statepoint_says, gc_relocate_says, case_says, return_says, operator_says}
 use Rattle.read_back.proofs.BackLines.{at, integer-word, condition-is, one_given, two_given, three_given}
 use Rattle.read_back.proofs.BackLists.{each_given, Passes}
 use Rattle.read_back.proofs.BackBlocks.{all_append}
-use Rattle.read_back.proofs.BackNames.{Good}
-use Rattle.read_back.proofs.BackInsts.{IsPrintedIn, WidthsOf, good_zip, same_good, one_width, pointer_width, passing, guards, first_of}
+use Rattle.read_back.proofs.BackNames.{Good, IsKept}
+use Rattle.read_back.proofs.BackInsts.{IsPrintedIn, WidthsOf, good_zip, same_good, one_width, pointer_width, passing, guards, kept_of, first_of}
 use Rattle.read_back.proofs.Fronts.{zip_take}
 
 pub record IsUse (names : Names) (used : Val × TypeWord) : Type 0 where
@@ -135,16 +136,36 @@ live_uses : (names : Names) (os : List Operand) → AllByRecursion (λ (o : Oper
 live_uses names [] good = tt
 live_uses names (o ∷ os) good = (use_of names tys.Ptr o good.0, live_uses names os good.1)
 
+kept_uses : (names : Names) (bundle : List (Ty × Operand)) → AllByRecursion (IsKept names) bundle → AllByRecursion (IsUse names) (map (kept_says names) bundle)
+kept_uses names [] kept = tt
+kept_uses names (entry ∷ bundle) kept = (use_of names entry.0 entry.1 kept.0.good, kept_uses names bundle kept.1)
+
+-- all of them, or none
+if_kept : (P : Val × TypeWord → Type 0) (none : Bool) (kept : List (Val × TypeWord)) → AllByRecursion P kept → AllByRecursion P (if none then [] else kept)
+if_kept P true kept all = tt
+if_kept P false kept all = all
+
+call_uses : {of : Form} (names : Names) (callee : Callee) (ts : List Ty) (inst : Instruction) → IsPrintedIn of names (ops.Call callee ts) inst → Uses names (call_says names callee ts inst)
+call_uses names callee ts inst p =
+    let said : List (Val × TypeWord) = map (kept_says names) inst.bundle in
+    all_append (IsUse names) (filter_map passed_value (map (λ (argument : Ty × Operand). passed_says names argument.0 argument.1) (zip ts inst.operands)))
+    (if is_leaf_name (callee_name names callee) then [] else said)
+    (passed_uses names inst.operands ts (passing names callee ts inst p).passes)
+    (if_kept (IsUse names) (is_leaf_name (callee_name names callee)) said (kept_uses names inst.bundle (kept_of names (ops.Call callee ts) inst p p.line.bundle)))
+
 statepoint_uses : {of : Form} (names : Names) (id : ℕ) (callee : Callee) (ts : List Ty) (inst : Instruction)
     → IsPrintedIn of names (ops.Statepoint id callee ts) inst → Uses names (statepoint_says names id callee ts inst)
 statepoint_uses names id callee ts inst p =
     let g = guards names id callee ts inst p in
     let live : List Operand = drop (length ts) inst.operands in
     let said : List (Ty × Operand) → List Given = map (λ (argument : Ty × Operand). passed_says names argument.0 argument.1) in
-    all_append (IsUse names) (filter_map passed_value (said (zip ts inst.operands))) (map live_use (map (value_says names tys.Ptr) live))
+    let lived : List (Val × TypeWord) = map live_use (map (value_says names tys.Ptr) live) in
+    all_append (IsUse names) (filter_map passed_value (said (zip ts inst.operands)) ++ lived) (map (kept_says names) inst.bundle)
+    (all_append (IsUse names) (filter_map passed_value (said (zip ts inst.operands))) lived
     (subst (λ (z : List (Ty × Operand)). AllByRecursion (IsUse names) (filter_map passed_value (said z))) (zip_take ts inst.operands)
     (passed_uses names (take (length ts) inst.operands) ts g.passes))
-    (live_uses names live g.live)
+    (live_uses names live g.live))
+    (kept_uses names inst.bundle (kept_of names (ops.Statepoint id callee ts) inst p p.line.bundle))
 
 index_width : WidthsOf (tys.Int 32)
 index_width = All-from_recursion IsWidth (32 ∷ []) ((omega arith, omega arith), tt)
@@ -191,7 +212,7 @@ inst_uses names ops.Store inst p =
     let two = two_given (Good names) inst.operands inst.ty tys.Ptr
     (good_zip names inst.operands (inst.ty ∷ tys.Ptr ∷ []) p.fits p.line.values (p.widths, (pointer_width, tt))) in
     ((use_of names inst.ty (operand_at inst 0) two.first, (use_of names tys.Ptr (operand_at inst 1) two.second, tt)), tt)
-inst_uses names (ops.Call callee ts) inst p = (passed_uses names inst.operands ts (passing names callee ts inst p).passes, tt)
+inst_uses names (ops.Call callee ts) inst p = (call_uses names callee ts inst p, tt)
 inst_uses names (ops.Statepoint id callee ts) inst p = (statepoint_uses names id callee ts inst p, tt)
 inst_uses names ops.GcResult inst p =
     let one = one_given (Good names) inst.operands tys.Token (good_zip names inst.operands (tys.Token ∷ []) p.fits p.line.0.values (pointer_width, tt)) in

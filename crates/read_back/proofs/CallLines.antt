@@ -1,11 +1,11 @@
 -- Calls and phis on their lines.
-use Rattle.std.proofs.Common.{◌≡◌, refl, ℕ, ◌<◌, Bool, true, false, inl, inr, List, [], ◌∷◌, ◌++◌, length, map, Some, None, codes, append_assoc}
+use Rattle.std.proofs.Common.{◌≡◌, refl, ℕ, ◌<◌, ◌≤◌, Bool, true, false, inl, inr, List, [], ◌∷◌, ◌++◌, length, map, Some, None, codes, append_assoc}
 use Rattle.std.specs.List.{AllByRecursion, list_all, zip}
 use Rattle.std.proofs.lemmas.List.Elements.{All-from_recursion}
-use Rattle.std.proofs.lemmas.Bool.{and_parts, and_from, or_cases, or_right}
+use Rattle.std.proofs.lemmas.Bool.{and_parts, and_from, or_right}
 use Rattle.sp_ids.specs.declared.ids.BlockId.{BlockId}
 use Rattle.sp_ids.specs.declared.ids.FuncId.{FuncId}
-use Rattle.sp_text.specs.Tokens.{tokens, is_name, is_plain_name, is_numeral}
+use Rattle.sp_text.specs.Tokens.{tokens, is_name}
 use Rattle.sp_text.specs.Bytes.{in_name, begins_name}
 use Rattle.std.specs.Char.{is_ascii_digit}
 use Rattle.ir_ast.specs.declared.types.Ty.{Ty}
@@ -23,21 +23,22 @@ use Rattle.ir_printer.specs.Lists.{joined}
 use Rattle.ir_printer.specs.Names.{Names, block_name, function_name, layout_name}
 use Rattle.ir_printer.specs.Words.{type_text}
 use Rattle.ir_printer.specs.Operands.{parameter_text, argument_text}
-use Rattle.ir_printer.specs.Calls.{callee_name}
+use Rattle.ir_printer.specs.Calls.{callee_name, bundles_text}
 use Rattle.ir_printer.specs.Lines.{result_front, operator_text, phi_entry_text}
 use Rattle.line_forms.specs.declared.forms.Form.TheVariants as forms
 use Rattle.line_tokens.specs.Families.{statepoint_name, relocate_name, result_suffix, result_front as family_result_front, is_family_name}
 use Rattle.line_parts.specs.Lists.{Given, given, comma, passed_at, is_task_start, entry_at, begins_entry}
 use Rattle.line_tokens.specs.Marks.{is_mark, begins}
 use Rattle.line_forms.specs.Slots as parts
-use Rattle.read_back.specs.Said.{word_of, value_says, passed_says, entry_says}
+use Rattle.read_back.specs.Said.{word_of, value_says, passed_says, kept_says, entry_says}
 use Rattle.read_back.proofs.BackLists.{CalleeBelow}
-use Rattle.read_back.proofs.Steps.{plain_bytes, numeral_digits}
+use Rattle.read_back.proofs.BackNames.{IsKept}
 use Rattle.read_back.proofs.FormsIn.{gc_new_own, value_call_form, void_call_form}
 use Rattle.read_back.proofs.Listed.{SpellsElement}
 use Rattle.read_back.proofs.ListForms.{EndsAtMark, Anything, passed_element, passed_opens, function_element, function_opens, value_call_line, void_call_line, entry_element, phi_line}
 use Rattle.read_back.proofs.Operands.{HaveNames, IsNarrow, block-named, function-named, function-own, layout-named, type_spelled, type_allowed, value_spelled}
-use Rattle.read_back.proofs.OneLine.{OneLine, made}
+use Rattle.read_back.proofs.OneLine.{OneLine, made, calling}
+use Rattle.read_back.proofs.BundleLines.{call_kept, deopt_in_limit}
 use Rattle.sp_text.proofs.Spelled.{name_bytes}
 
 -- ---- callees
@@ -125,55 +126,57 @@ each_opens plain names (y ∷ ys) all = (all.0.opens, each_opens plain names ys 
 
 -- ---- calls
 
-value_call_shape : (names : Names) (callee : Callee) (types : List Ty) (n : List ℕ) (ty : Ty) (os : List Operand)
-    → result_front (Some n) ++ operator_text names (ast.Call callee types) (made (Some n) (ast.Call callee types) ty os [])
-    ≡ 37 ∷ (n ++ (32 ∷ 61 ∷ 32 ∷ (codes "call " ++ (type_text ty ++ (32 ∷ 64 ∷ (callee_name names callee ++ (40 ∷ (joined (codes ", ") (map (passed_text names) (zip types os)) ++ codes ")"))))))))
-value_call_shape names callee types n ty os = simp append_assoc
+value_call_shape : (names : Names) (callee : Callee) (types : List Ty) (n : List ℕ) (ty : Ty) (os : List Operand) (bundle : List (Ty × Operand))
+    → result_front (Some n) ++ operator_text names (ast.Call callee types) (calling (Some n) (ast.Call callee types) ty os bundle)
+    ≡ 37 ∷ (n ++ (32 ∷ 61 ∷ 32 ∷ (codes "call " ++ (type_text ty ++ (32 ∷ 64 ∷ (callee_name names callee ++ (40 ∷ (joined (codes ", ") (map (passed_text names) (zip types os)) ++ (41 ∷ bundles_text names bundle [])))))))))
+value_call_shape names callee types n ty os bundle = simp append_assoc
 
--- `%x = call T @f(T V, ..)`
-pub value_call_reads : (names : Names) → HaveNames names → (callee : Callee) (types : List Ty) (n : List ℕ) (ty : Ty) (os : List Operand) → is_name n ≡ true → is_first_class ty ≡ true → IsNarrow ty
-    → CalleeBelow names callee → AllByRecursion (PassedReads (is_task_start (callee_name names callee)) names) (zip types os)
-    → OneLine names (made (Some n) (ast.Call callee types) ty os [])
-value_call_reads names have callee types n ty os is first narrow there all =
+-- `%x = call T @f(T V, ..)`, and maybe `[ "deopt"(T V, ..) ]`
+pub value_call_reads : (names : Names) → HaveNames names → (callee : Callee) (types : List Ty) (n : List ℕ) (ty : Ty) (os : List Operand) (bundle : List (Ty × Operand)) → is_name n ≡ true → is_first_class ty ≡ true → IsNarrow ty
+    → CalleeBelow names callee → AllByRecursion (PassedReads (is_task_start (callee_name names callee)) names) (zip types os) → AllByRecursion (IsKept names) bundle → length bundle ≤ 64
+    → OneLine names (calling (Some n) (ast.Call callee types) ty os bundle)
+value_call_reads names have callee types n ty os bundle is first narrow there all kept few =
     let plain : Bool = is_task_start (callee_name names callee) in record {
       form = forms.ValueCall;
-      items = parts.name n ∷ parts.ty (word_of ty) ∷ parts.called (callee_name names callee) (map (passed_given names) (zip types os)) ∷ [];
-      reads = rw (value_call_shape names callee types n ty os) (value_call_line n is (type_spelled ty first narrow) (type_allowed ty first)
+      items = parts.name n ∷ parts.ty (word_of ty) ∷ parts.called (callee_name names callee) (map (passed_given names) (zip types os)) ∷ parts.deopt (map (kept_says names) bundle) ∷ [];
+      reads = rw (value_call_shape names callee types n ty os bundle) (value_call_line n is (type_spelled ty first narrow) (type_allowed ty first)
           (callee_name names callee) (callee-named names have callee there) (passed_text names) (passed_given names) (zip types os)
-          (All-from_recursion _ (zip types os) (each_element plain names (zip types os) all)) (All-from_recursion _ (zip types os) (each_opens plain names (zip types os) all)));
+          (All-from_recursion _ (zip types os) (each_element plain names (zip types os) all)) (All-from_recursion _ (zip types os) (each_opens plain names (zip types os) all))
+          (call_kept names have bundle kept));
       says = refl;
-      fits = refl;
+      fits = rw (deopt_in_limit names bundle few) refl;
       stands = refl;
       counts = refl;
       kept = refl;
-      both = inr (rw (value_call_shape names callee types n ty os) (value_call_form n is (type_spelled ty first narrow) (callee_name names callee) (callee-named names have callee there) (callee-own names have callee there)
-          (joined (codes ", ") (map (passed_text names) (zip types os)) ++ codes ")")));
+      both = inr (rw (value_call_shape names callee types n ty os bundle) (value_call_form n is (type_spelled ty first narrow) (callee_name names callee) (callee-named names have callee there) (callee-own names have callee there)
+          (joined (codes ", ") (map (passed_text names) (zip types os)) ++ (41 ∷ bundles_text names bundle []))));
     }
 
-void_call_shape : (names : Names) (callee : Callee) (types : List Ty) (os : List Operand)
-    → operator_text names (ast.Call callee types) (made None (ast.Call callee types) tys.Void os [])
-    ≡ codes "call void @" ++ (callee_name names callee ++ (40 ∷ (joined (codes ", ") (map (passed_text names) (zip types os)) ++ codes ")")))
-void_call_shape names callee types os = refl
+void_call_shape : (names : Names) (callee : Callee) (types : List Ty) (os : List Operand) (bundle : List (Ty × Operand))
+    → operator_text names (ast.Call callee types) (calling None (ast.Call callee types) tys.Void os bundle)
+    ≡ codes "call void @" ++ (callee_name names callee ++ (40 ∷ (joined (codes ", ") (map (passed_text names) (zip types os)) ++ (41 ∷ bundles_text names bundle []))))
+void_call_shape names callee types os bundle = refl
 
--- `call void @f(T V, ..)`
-pub void_call_reads : (names : Names) → HaveNames names → (callee : Callee) (types : List Ty) (os : List Operand)
-    → CalleeBelow names callee → AllByRecursion (PassedReads (is_task_start (callee_name names callee)) names) (zip types os)
-    → OneLine names (made None (ast.Call callee types) tys.Void os [])
-void_call_reads names have callee types os there all =
+-- `call void @f(T V, ..)`, and maybe `[ "deopt"(T V, ..) ]`
+pub void_call_reads : (names : Names) → HaveNames names → (callee : Callee) (types : List Ty) (os : List Operand) (bundle : List (Ty × Operand))
+    → CalleeBelow names callee → AllByRecursion (PassedReads (is_task_start (callee_name names callee)) names) (zip types os) → AllByRecursion (IsKept names) bundle → length bundle ≤ 64
+    → OneLine names (calling None (ast.Call callee types) tys.Void os bundle)
+void_call_reads names have callee types os bundle there all kept few =
     let plain : Bool = is_task_start (callee_name names callee) in
     let reads = void_call_line
     (callee_name names callee) (callee-named names have callee there) (passed_text names) (passed_given names) (zip types os)
-    (All-from_recursion _ (zip types os) (each_element plain names (zip types os) all)) (All-from_recursion _ (zip types os) (each_opens plain names (zip types os) all)) in record {
+    (All-from_recursion _ (zip types os) (each_element plain names (zip types os) all)) (All-from_recursion _ (zip types os) (each_opens plain names (zip types os) all))
+    (call_kept names have bundle kept) in record {
       form = forms.VoidCall;
-      items = parts.called (callee_name names callee) (map (passed_given names) (zip types os)) ∷ [];
-      reads = rw (void_call_shape names callee types os) reads;
+      items = parts.called (callee_name names callee) (map (passed_given names) (zip types os)) ∷ parts.deopt (map (kept_says names) bundle) ∷ [];
+      reads = rw (void_call_shape names callee types os bundle) reads;
       says = refl;
-      fits = refl;
+      fits = rw (deopt_in_limit names bundle few) refl;
       stands = refl;
       counts = refl;
       kept = refl;
-      both = inr (rw (void_call_shape names callee types os) (void_call_form (callee_name names callee) (callee-named names have callee there) (callee-own names have callee there)
-          (joined (codes ", ") (map (passed_text names) (zip types os)) ++ codes ")") reads.form_is));
+      both = inr (rw (void_call_shape names callee types os bundle) (void_call_form (callee_name names callee) (callee-named names have callee there) (callee-own names have callee there)
+          (joined (codes ", ") (map (passed_text names) (zip types os)) ++ (41 ∷ bundles_text names bundle [])) reads.form_is));
     }
 
 -- ---- phis

@@ -39,3 +39,12 @@ pub front_functions : (P : ℕ → Type 0) (n : ℕ) (os : List Operand) → Fun
 front_functions P zero os all = tt
 front_functions P (suc n) [] all = tt
 front_functions P (suc n) (o ∷ os) all = join_functions P o os (take n os) all (front_functions P n os (later_functions P o os all))
+
+-- those that stand in front of a bundle
+pub before_bundle : (P : ℕ → Type 0) (os : List Operand) (bundle : List (Ty × Operand))
+    → AllByRecursion P (functions_named (record { result = None; op = ops.Load; ty = tys.Void; operands = os; labels = []; bundle = bundle })) → FunctionsOf P os
+before_bundle P [] bundle all = tt
+before_bundle P (operands.Fun f ∷ os) bundle all = (all.0, before_bundle P os bundle all.1)
+before_bundle P (operands.Value v ∷ os) bundle all = before_bundle P os bundle all
+before_bundle P (operands.Int n ∷ os) bundle all = before_bundle P os bundle all
+before_bundle P (operands.Null ∷ os) bundle all = before_bundle P os bundle all

@@ -27,15 +27,15 @@ use Rattle.ir_ast.specs.Types.{is_first_class}
 use Rattle.ir_ast.specs.Values.{Definition, argument, outcome, definition_name, definitions_of}
 use Rattle.ir_ast.specs.Widths.{IsWidth, type_widths, line_widths, widths_of}
 use Rattle.ir_cfg.specs.Limits.{HasNames}
-use Rattle.ir_cfg.specs.TypedModules.{IsTypedFunction}
+use Rattle.ir_cfg.specs.TypedModules.{IsTypedFunction, IsTypedModule}
 use Rattle.ir_printer.specs.Names.{Names}
 use Rattle.read_back.specs.Said.{result_of}
 use Rattle.read_back.proofs.BackInsts.{split_all}
-use Rattle.read_back.proofs.BackModules.{IsBare, shaped_of, names_in, printed_in}
+use Rattle.read_back.proofs.BackModules.{shaped_of, names_in, printed_in}
 use Rattle.read_back.proofs.FormsIn.{own_name}
 use Rattle.read_back.proofs.NotCalled.{each_of}
-use Rattle.read_back.proofs.Operands.{HaveNames}
-use Rattle.read_back.proofs.SourceLines.{narrow_of, IsPrintable, inst_read}
+use Rattle.read_back.proofs.Operands.{HaveNames, narrow_of}
+use Rattle.read_back.proofs.SourceLines.{IsPrintable, inst_read}
 use Rattle.read_back.proofs.Blocks.{weight, AllSay, AllBlocksSay, RunsFit}
 use Rattle.read_back.proofs.Functions.{ArgumentSays}
 use Rattle.read_back.proofs.FunctionsRead.{FunctionReads}
@@ -119,14 +119,14 @@ pub record FunctionIsReadable (of : TextForm) (func : Function) : Type 0 where
   pub runs : AllByRecursion (λ (block : BasicBlock). RunsFit 0 block.insts) func.blocks
   pub values : length func.args + weight of (length (instructions_of func.blocks)) ≤ 4096
 
-pub function_reads : (of : TextForm) (content : ModuleContent) → IsBare of content → (func : Function) → Contains content.funcs func → FunctionIsReadable of func → FunctionReads of content.layouts content.funcs func
-function_reads of content bare func c own = record {
+pub function_reads : (of : TextForm) (content : ModuleContent) → IsTypedModule of content → (func : Function) → Contains content.funcs func → FunctionIsReadable of func → FunctionReads of content.layouts content.funcs func
+function_reads of content whole func c own = record {
   named = names.own;
-  short = All-contains (λ (f : Function). length f.name ≤ 4096) content.funcs func bare.typed.limits.function_names c;
+  short = All-contains (λ (f : Function). length f.name ≤ 4096) content.funcs func whole.limits.function_names c;
   answers = typed.answer;
   narrow = narrow_of func.answer (All-from_recursion IsWidth (type_widths func.answer) heads.0);
   args = All-from_recursion ArgumentSays func.args (arguments_say func.args (recursion_from_All (λ (arg : Arg). is_first_class arg.ty ≡ true) func.args typed.args) heads.1 values.0);
-  few = All-contains (λ (f : Function). length f.args ≤ 64) content.funcs func bare.typed.limits.arguments c;
+  few = All-contains (λ (f : Function). length f.args ≤ 64) content.funcs func whole.limits.arguments c;
   has_block = typed_func.has_block;
   blocks = blocks_say of (names_in content func) have_names func.blocks
       (recursion_from_All (λ (block : BasicBlock). is_name block.name ≡ true) func.blocks names.labels)
@@ -139,7 +139,7 @@ function_reads of content bare func c own = record {
     insts = instructions_of func.blocks
 
     typed_func : IsTypedFunction of func
-    typed_func = All-contains (IsTypedFunction of) content.funcs func bare.typed.functions c
+    typed_func = All-contains (IsTypedFunction of) content.funcs func whole.functions c
 
     names : HasNames func
     names = typed_func.names
@@ -148,13 +148,13 @@ function_reads of content bare func c own = record {
     have_names = record {
       values = names.values;
       blocks = names.labels;
-      layouts = bare.typed.layout_names;
-      functions = λ k d low. (bare.typed.functions k d low).names.own;
-      own = λ k d low. own_name _ (bare.typed.no_fault.free k d low);
+      layouts = whole.layout_names;
+      functions = λ k d low. (whole.functions k d low).names.own;
+      own = λ k d low. own_name _ (whole.no_fault.free k d low);
     }
 
     typed : FunctionIsTyped (scope_of content func) func
-    typed = All-contains (λ (f : Function). FunctionIsTyped (scope_of content f) f) content.funcs func bare.typed.no_fault.typed c
+    typed = All-contains (λ (f : Function). FunctionIsTyped (scope_of content f) f) content.funcs func whole.no_fault.typed c
 
     widths : AllByRecursion IsWidth (type_widths func.answer ++ flat_map (λ (arg : Arg). type_widths arg.ty) func.args) × AllByRecursion IsWidth (flat_map line_widths insts)
     widths = split_all IsWidth (type_widths func.answer ++ flat_map (λ (arg : Arg). type_widths arg.ty) func.args) (flat_map line_widths insts)
@@ -169,13 +169,14 @@ function_reads of content bare func c own = record {
     counted : (inst : Instruction) → IsTyped (scope_of content func) inst → (id : ℕ) (callee : Callee) (takes : List Ty) → inst.op ≡ ops.Statepoint id callee takes → length takes < 2 ^ 64
     counted inst fit id callee takes is =
         let call : IsCallOf (scope_of content func) callee takes inst = subst (λ (o : Op). RuleOf (scope_of content func) o inst) is fit.rule in
-        let few = takes_few content.funcs (recursion_from_All (λ (f : Function). length f.args ≤ 64) content.funcs bare.typed.limits.arguments) callee _ call.signature in
+        let few = takes_few content.funcs (recursion_from_All (λ (f : Function). length f.args ≤ 64) content.funcs whole.limits.arguments) callee _ call.signature in
         omega arith
 
     printable : (inst : Instruction) → Contains insts inst → IsPrintable of (names_in content func) inst.op inst
     printable inst d = record {
-      printed = printed_in of content (shaped_of of content bare) func c own.plain inst d;
+      printed = printed_in of content (shaped_of of content whole) func c own.plain inst d;
       named = All-contains ResultIsNamed insts inst (All-from_recursion ResultIsNamed insts (results_named insts values.1)) d;
+      kept = All-contains (λ (i : Instruction). length i.bundle ≤ 64) insts inst typed_func.bundles d;
       few = All-contains (λ (i : Instruction). length (entries_of i) ≤ 16384) insts inst own.few d;
       counted = counted inst (All-contains (IsTyped (scope_of content func)) insts inst typed.lines d);
     }

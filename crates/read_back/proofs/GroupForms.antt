@@ -1,8 +1,5 @@
 -- The lines of both forms of texts: a line of the source form is one of the rewritten form too, and the lines that the rewritten form has besides.
 use Rattle.std.proofs.Common.{◌≡◌, refl, ap, ◌∙◌, ℕ, true, false, List, [], ◌∷◌, ◌++◌, map, Option, Some, codes}
-use Rattle.std.specs.List.{All}
-use Rattle.std.specs.Str.{bytes_eq}
-use Rattle.std.proofs.lemmas.Slice.Eq.{bytes_eq-Decides}
 use Rattle.sp_text.specs.Tokens.{Tok, tok, tokens, is_name}
 use Rattle.sp_text.specs.declared.tokens.Kind.TheVariants as kinds
 use Rattle.ir_ast.specs.declared.modules.Form.TheVariants as text_forms
@@ -16,24 +13,27 @@ use Rattle.line_parts.specs.Drops.{after_bracket}
 use Rattle.line_tokens.specs.Families.{statepoint_name, relocate_name, result_front, result_suffix, is_suffix, is_family_name, is_result_of}
 use Rattle.line_forms.proofs.FamilyLines.{fit_is, a_statepoint}
 use Rattle.line_forms.specs.Forms.{slots, form_in, called_form, declared_form, callee_of, first_global}
-use Rattle.line_parts.specs.Lists.{Given, comma}
-use Rattle.line_tokens.specs.Marks.{is_mark, is_word, begins}
-use Rattle.line_parts.specs.Parts.{Val, is_value_type, is_answer_type}
-use Rattle.line_forms.specs.Slots.{Item, name, ty, types as types_said, handed, live, literal, dropped, some_live, family_answer}
-use Rattle.line_parts.specs.Groups.{live_entry_at, suffix_of}
-use Rattle.ir_printer.specs.Lists.{joined}
+use Rattle.line_parts.specs.Lists.{Given}
+use Rattle.line_tokens.specs.Marks.{is_word}
+use Rattle.line_parts.specs.Parts.{is_value_type, is_answer_type}
+use Rattle.line_forms.specs.Slots.{Item, Slot, name, ty, types as types_said, handed, literal, dropped, some_bundles, family_answer}
+use Rattle.line_parts.specs.Groups.{suffix_of}
 use Rattle.read_back.proofs.Steps.{Reads, IsClean, end, mark, word, local, spaced, space, over_blank, drop_at, drop_end}
 use Rattle.read_back.proofs.Spellings.{SpellsType, SpellsLiteral, pointer_type}
 use Rattle.read_back.proofs.PartSteps.{managed_step}
-use Rattle.read_back.proofs.Listed.{SpellsElement, others}
+use Rattle.read_back.proofs.Listed.{others}
 use Rattle.read_back.proofs.Forms.{result_tokens}
-use Rattle.read_back.proofs.ListForms.{EndsAtMark, word_none}
+use Rattle.read_back.proofs.ListForms.{word_none}
 use Rattle.read_back.proofs.FormsIn.{ReadsIn, call_callee, value_in, call_tokens, declare_tokens, declared_name, declared_by}
-use Rattle.read_back.proofs.GroupSteps.{as_is, token_then, mark_then, blank_then, global_step, token_step, number_step, call_spelled, SpellsCall, call_step, live_step, no_live, result_step, family_answer_step, family_step, bracketing_step}
+use Rattle.read_back.proofs.GroupSteps.{as_is, token_then, mark_then, blank_then, global_step, token_step, number_step, call_spelled, SpellsCall, call_step, result_step, family_answer_step, family_step, bracketing_step}
 use Rattle.line_parts.proofs.Dropping.{past_all-none}
-use Rattle.name_chains.proofs.Places.{bytes_eq-self}
+use Rattle.ir_lines.proofs.PlaceLemmas.{bytes_eq-self}
 
 -- ---- statepoints
+
+-- behind the arguments of a statepoint: attribute groups, what it keeps, and its live entries
+abbrev pub bundles_end : List Slot
+bundles_end = dropped drops.Groups ∷ some_bundles ∷ dropped drops.Attachments ∷ []
 
 abbrev type_tokens : List Tok → List Tok
 type_tokens ts = tok kinds.Word (codes "token") ∷ tok kinds.Punct (codes "(") ∷ tok kinds.Word (codes "i64") ∷ tok kinds.Punct (codes ",") ∷ tok kinds.Word (codes "i32")
@@ -64,16 +64,16 @@ module _ {P Y : Type 0} (n : List ℕ) (is : is_name n ≡ true) {id answer call
   abbrev saying : List Item → List Item
   saying items = name n ∷ literal a ∷ ty word_is ∷ types_said (map psaid ps) ∷ name callee ∷ literal b ∷ handed (map said ys) ∷ items
 
-  -- the line of a statepoint whose live entries are spelled by the end of the text
-  statepoint_by : {rest : List ℕ} {first : Option Tok} {entries : List Val} → Reads (dropped drops.Groups ∷ some_live ∷ dropped drops.Attachments ∷ []) rest first (live entries ∷ [])
-      → ReadsIn text_forms.Rewritten (spelled rest) forms.Statepoint (saying (live entries ∷ []))
+  -- the line of a statepoint whose bundles are spelled by the end of the text
+  pub statepoint_line : {rest : List ℕ} {first : Option Tok} {items : List Item} → Reads bundles_end rest first items
+      → ReadsIn text_forms.Rewritten (spelled rest) forms.Statepoint (saying items)
   unfolding statepoint_name
-  statepoint_by {rest} {entries = entries} r = record { form_is = form_is; whole = fit_is forms.Statepoint _ _ [] all.whole c.own; clean = all.clean }
+  statepoint_line {rest} {items = items} r = record { form_is = form_is; whole = fit_is forms.Statepoint _ _ [] all.whole c.own; clean = all.clean }
     where
       body : List ℕ
       body = call_spelled id answer (map ptext ps) callee count (others text ys) rest
 
-      all : Reads (slots forms.Statepoint) (spelled rest) (Some (tok kinds.Local (37 ∷ n))) (saying (live entries ∷ []))
+      all : Reads (slots forms.Statepoint) (spelled rest) (Some (tok kinds.Local (37 ∷ n))) (saying items)
       all = local n is refl (space (mark 61 refl refl refl (space (drop_at (drops.Words flags.Calling) (λ more. refl) (word (codes "call") refl refl refl refl (spaced (drop_at drops.Groups (λ more. refl) (over_blank
           (word (codes "token") refl refl refl refl (space (mark 40 refl refl refl (word (codes "i64") refl refl refl refl (mark 44 refl refl refl (space (word (codes "i32") refl refl refl refl (mark 44 refl refl refl (space
           (word (codes "ptr") refl refl refl refl (mark 44 refl refl refl (space (word (codes "i32") refl refl refl refl (mark 44 refl refl refl (space (word (codes "i32") refl refl refl refl (mark 44 refl refl refl (space
@@ -82,18 +82,6 @@ module _ {P Y : Type 0} (n : List ℕ) (is : is_name n ≡ true) {id answer call
       form_is : form_in text_forms.Rewritten (tokens (spelled rest)) ≡ Some forms.Statepoint
       form_is = rw (result_tokens n (statepoint_front body) is) (rw (statepoint_tokens body)
           (value_in (37 ∷ n) statepoint_name (type_tokens (tok kinds.Global (codes "@llvm.experimental.gc.statepoint.p0") ∷ tokens (40 ∷ body))) (statepoint_callee (tokens (40 ∷ body))) ∙ ap Some a_statepoint))
-
-  -- a statepoint without live entries
-  pub bare_statepoint_line : ReadsIn text_forms.Rewritten (spelled []) forms.Statepoint (saying (live [] ∷ []))
-  bare_statepoint_line = statepoint_by (drop_end drops.Groups (no_live (drop_end drops.Attachments end)))
-
-  -- and one with some
-  pub live_statepoint_line : {L : Type 0} (ltext : L → List ℕ) (lsaid : L → Val) (ls : List L)
-      → All (λ l. SpellsElement live_entry_at comma EndsAtMark (ltext l) (lsaid l)) ls
-      → All (λ l. (rest : List ℕ) → EndsAtMark rest → begins (is_mark (codes ")")) (tokens (ltext l ++ rest)) ≡ false) ls
-      → ReadsIn text_forms.Rewritten (spelled (codes " [ \"gc-live\"(" ++ (joined (codes ", ") (map ltext ls) ++ codes ") ]"))) forms.Statepoint (saying (live (map lsaid ls) ∷ []))
-  live_statepoint_line ltext lsaid ls each opens =
-      statepoint_by (spaced (drop_at drops.Groups (λ more. refl) (live_step ltext lsaid ls each opens (drop_end drops.Attachments end))))
 
 -- ---- results
 

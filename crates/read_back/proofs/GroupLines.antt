@@ -3,9 +3,7 @@ use Rattle.std.proofs.Common.{◌≡◌, refl, ap, ◌∙◌, ℕ, ◌<◌, ◌�
 use Rattle.std.specs.Prelude.{drop, pos, ◌==◌, if◌then◌else◌}
 use Rattle.std.specs.Fmt.{signed_decimal}
 use Rattle.std.specs.List.{AllByRecursion, list_all, zip}
-use Rattle.std.proofs.lemmas.Bool.{le-leb, ne_eqb, or_right}
-use Rattle.std.proofs.lemmas.Fmt.{decimal_digit, decimal_step}
-use Rattle.std.proofs.lemmas.List.{length-map}
+use Rattle.std.proofs.lemmas.Bool.{ne_eqb, or_right}
 use Rattle.std.proofs.lemmas.List.Elements.{All-from_recursion}
 use Rattle.sp_ids.specs.Numbers.{wrapped, signed}
 use Rattle.sp_text.specs.Tokens.{Tok, tok, tokens, is_name, are_digits}
@@ -18,43 +16,40 @@ use Rattle.ir_ast.specs.declared.ops.Callee.{Callee}
 use Rattle.ir_ast.specs.declared.ops.Operand.{Operand}
 use Rattle.ir_ast.specs.declared.ops.Operand.TheVariants as operands
 use Rattle.ir_ast.specs.declared.ops.Op.TheVariants as ast
-use Rattle.ir_ast.specs.Operands.{is_value}
 use Rattle.ir_ast.specs.Types.{is_answer, is_first_class}
-use Rattle.ir_ast.specs.Values.{value_types, definitions_of}
+use Rattle.ir_ast.specs.Values.{definitions_of}
 use Rattle.sp_ids.specs.declared.ids.ValueId.{ValueId}
 use Rattle.std.specs.Char.{is_ascii_digit}
 use Rattle.std.specs.Str.{bytes_eq}
-use Rattle.ir_ast.specs.Faults.TypeClash.{Fits}
-use Rattle.ir_printer.specs.Lists.{joined}
 use Rattle.ir_printer.specs.Names.{Names, value_name}
 use Rattle.ir_printer.specs.Words.{type_text, integer_text}
-use Rattle.ir_printer.specs.Operands.{parameter_text, value_text}
+use Rattle.ir_printer.specs.Operands.{parameter_text}
 use Rattle.ir_printer.specs.Calls.{callee_name, statepoint_words, elementtype_words, end_words, result_words, relocate_words, bundles_text, result_suffix}
 use Rattle.ir_printer.specs.Lines.{result_front, operator_text}
 use Rattle.line_parts.specs.Types as types
 use Rattle.line_forms.specs.declared.forms.Form.TheVariants as forms
 use Rattle.line_tokens.specs.Families.{is_suffix}
 use Rattle.line_parts.specs.Gives.{after}
-use Rattle.ir_reader.specs.Limits.{item_fits}
 use Rattle.line_parts.specs.Lists.{comma, is_argument_type, is_task_start}
 use Rattle.line_tokens.specs.Marks.{is_mark, begins}
 use Rattle.line_parts.specs.Parts.{allowed_type_at, spelled_type_at, pointer_at}
-use Rattle.line_forms.specs.Slots.{Item}
 use Rattle.line_forms.specs.Slots as parts
-use Rattle.line_parts.specs.Groups.{takes_own, live_entry_at}
-use Rattle.read_back.specs.Said.{word_of, value_says, literal_of, parameter_says}
+use Rattle.line_parts.specs.Groups.{takes_own}
+use Rattle.read_back.specs.Said.{word_of, value_says, kept_says, literal_of, parameter_says}
 use Rattle.read_back.proofs.Steps.{first_of}
 use Rattle.read_back.proofs.Spellings.{SpellsLiteral, literal_token, signed-spellable, integer_suffix, integer_type, pointer_type, decimal-is, decimal-digits}
 use Rattle.read_back.proofs.Listed.{SpellsElement, others}
 use Rattle.read_back.proofs.ListForms.{EndsAtMark, type_element, type_opens, plain_opens, plain_spelled, goes_by_comma}
-use Rattle.read_back.proofs.Operands.{HaveNames, IsNarrow, value-named, value_spelled}
+use Rattle.read_back.proofs.Operands.{HaveNames, IsNarrow, value-named}
 use Rattle.read_back.proofs.Functions.{answer_spelled, answer_allowed}
 use Rattle.read_back.proofs.BackLists.{CalleeBelow}
+use Rattle.read_back.proofs.BackNames.{IsKept}
 use Rattle.read_back.proofs.CallLines.{PassedReads, passed_text, passed_given, callee-named, digits_named, each_element}
-use Rattle.read_back.proofs.OneLine.{LineIn, made}
-use Rattle.read_back.proofs.GroupSteps.{call_spelled, SpellsCall, live_element, live_opens}
+use Rattle.read_back.proofs.OneLine.{LineIn, made, calling}
+use Rattle.read_back.proofs.GroupSteps.{call_spelled, SpellsCall}
+use Rattle.read_back.proofs.BundleLines.{IsLive, statepoint_kept, bundles_in_limit}
 use Rattle.read_back.proofs.FormsIn.{ReadsIn}
-use Rattle.read_back.proofs.GroupForms.{ResultNamed, statepoint_front, bare_statepoint_line, live_statepoint_line, result_line, relocate_line}
+use Rattle.read_back.proofs.GroupForms.{ResultNamed, statepoint_front, statepoint_line, result_line, relocate_line}
 use Rattle.ir_printer.proofs.IntegerLemmas.{decimal-32}
 
 -- ---- numbers
@@ -108,24 +103,6 @@ each_taken_opens (ty ∷ takes) all = (taken_opens ty all.0, each_taken_opens ta
 
 -- ---- statepoints
 
--- a live entry: a pointer or `null`
-pub record IsLive (names : Names) (entry : Operand) : Type 0 where
-  pub value : is_value entry ≡ true
-  pub fits : Fits (value_types names.func) entry tys.Ptr
-
-abbrev entry_text : Names → Operand → List ℕ
-entry_text names entry = codes "ptr addrspace(1)" ++ (32 ∷ value_text names tys.Ptr entry)
-
-each_live : (names : Names) → HaveNames names → (entries : List Operand) → AllByRecursion (IsLive names) entries
-    → AllByRecursion (λ entry. SpellsElement live_entry_at comma EndsAtMark (entry_text names entry) (value_says names tys.Ptr entry)) entries
-each_live names have [] all = tt
-each_live names have (entry ∷ entries) all = (live_element (value_spelled names have tys.Ptr tt entry all.0.value all.0.fits), each_live names have entries all.1)
-
-each_live_opens : (names : Names) → HaveNames names → (entries : List Operand) → AllByRecursion (IsLive names) entries
-    → AllByRecursion (λ entry. (rest : List ℕ) → EndsAtMark rest → begins (is_mark (codes ")")) (tokens (entry_text names entry ++ rest)) ≡ false) entries
-each_live_opens names have [] all = tt
-each_live_opens names have (entry ∷ entries) all = (live_opens (value_spelled names have tys.Ptr tt entry all.0.value all.0.fits), each_live_opens names have entries all.1)
-
 -- what is known of a statepoint
 pub record IsGuarded (names : Names) (callee : Callee) (takes : List Ty) (n : List ℕ) (ty : Ty) (os : List Operand) : Type 0 where
   pub named : is_name n ≡ true
@@ -154,50 +131,29 @@ spells_call names have id callee takes n ty os is = record {
   own = is.own;
 }
 
-statepoint_shape : (names : Names) (id : ℕ) (callee : Callee) (takes : List Ty) (n : List ℕ) (ty : Ty) (os : List Operand)
-    → result_front (Some n) ++ operator_text names (ast.Statepoint id callee takes) (made (Some n) (ast.Statepoint id callee takes) ty os [])
+statepoint_shape : (names : Names) (id : ℕ) (callee : Callee) (takes : List Ty) (n : List ℕ) (ty : Ty) (os : List Operand) (bundle : List (Ty × Operand))
+    → result_front (Some n) ++ operator_text names (ast.Statepoint id callee takes) (calling (Some n) (ast.Statepoint id callee takes) ty os bundle)
     ≡ 37 ∷ (n ++ (32 ∷ 61 ∷ 32 ∷ statepoint_front (call_spelled (integer_text 64 id) (type_text ty) (map parameter_text takes) (callee_name names callee) (decimal (length takes))
-    (others (passed_text names) (zip takes os)) (bundles_text names [] (drop (length takes) os)))))
+    (others (passed_text names) (zip takes os)) (bundles_text names bundle (drop (length takes) os)))))
 unfolding statepoint_words elementtype_words end_words
-statepoint_shape names id callee takes n ty os = simp append_assoc
+statepoint_shape names id callee takes n ty os bundle = simp append_assoc
 
-live_shape : (body : List ℕ) → codes " [ " ++ ((codes "\"gc-live\"(" ++ (body ++ codes ")")) ++ codes " ]") ≡ codes " [ \"gc-live\"(" ++ (body ++ codes ") ]")
-live_shape body = simp append_assoc
-
--- what a statepoint's line says before its live entries
-abbrev call_says : Names → ℕ → Callee → List Ty → List ℕ → Ty → List Operand → List Item → List Item
-call_says names id callee takes n ty os more =
-    parts.name n ∷ parts.literal (literal_of (signed 64 id)) ∷ parts.ty (word_of ty) ∷ parts.types (map parameter_says takes) ∷ parts.name (callee_name names callee)
-    ∷ parts.literal (literal_of (pos (length takes))) ∷ parts.handed (map (passed_given names) (zip takes os)) ∷ more
-
-live_in_limit : (names : Names) (entries : List Operand) → length entries ≤ 16384 → item_fits (parts.live (map (value_says names tys.Ptr) entries)) ≡ true
-live_in_limit names entries few = rw (length-map entries (value_says names tys.Ptr), le-leb (length entries) 16384 few) refl
-
--- `%t = call token (..) @llvm.experimental.gc.statepoint.p0(.. @f, .. T V, ..) [ "gc-live"(P V, ..) ]`
-pub statepoint_reads : (names : Names) → HaveNames names → (id : ℕ) (callee : Callee) (takes : List Ty) (n : List ℕ) (ty : Ty) (os : List Operand) → IsGuarded names callee takes n ty os
-    → LineIn text_forms.Rewritten names (made (Some n) (ast.Statepoint id callee takes) ty os [])
-statepoint_reads names have id callee takes n ty os is = record {
+-- `%t = call token (..) @llvm.experimental.gc.statepoint.p0(.. @f, .. T V, ..) [ "deopt"(T V, ..), "gc-live"(P V, ..) ]`
+pub statepoint_reads : (names : Names) → HaveNames names → (id : ℕ) (callee : Callee) (takes : List Ty) (n : List ℕ) (ty : Ty) (os : List Operand) (bundle : List (Ty × Operand)) → IsGuarded names callee takes n ty os
+    → AllByRecursion (IsKept names) bundle → length bundle ≤ 64 → LineIn text_forms.Rewritten names (calling (Some n) (ast.Statepoint id callee takes) ty os bundle)
+statepoint_reads names have id callee takes n ty os bundle is kept few = record {
   form = forms.Statepoint;
-  items = call_says names id callee takes n ty os (parts.live (map (value_says names tys.Ptr) (drop (length takes) os)) ∷ []);
-  reads = rw (statepoint_shape names id callee takes n ty os) (by (drop (length takes) os) is.live);
+  items = parts.name n ∷ parts.literal (literal_of (signed 64 id)) ∷ parts.ty (word_of ty) ∷ parts.types (map parameter_says takes) ∷ parts.name (callee_name names callee)
+      ∷ parts.literal (literal_of (pos (length takes))) ∷ parts.handed (map (passed_given names) (zip takes os))
+      ∷ parts.bundles (map (kept_says names) bundle) (map (value_says names tys.Ptr) (drop (length takes) os)) ∷ [];
+  reads = rw (statepoint_shape names id callee takes n ty os bundle)
+      (statepoint_line n is.named (spells_call names have id callee takes n ty os is) (statepoint_kept names have bundle (drop (length takes) os) kept is.live));
   says = refl;
-  fits = rw (live_in_limit names (drop (length takes) os) is.few) refl;
+  fits = rw (bundles_in_limit names bundle (drop (length takes) os) few is.few) refl;
   stands = refl;
   counts = refl;
   kept = refl;
 }
-  where
-    spells : SpellsCall (integer_text 64 id) (type_text ty) (callee_name names callee) (decimal (length takes)) (literal_of (signed 64 id)) (literal_of (pos (length takes))) (word_of ty)
-        parameter_text parameter_says takes (passed_text names) (passed_given names) (zip takes os)
-    spells = spells_call names have id callee takes n ty os is
-
-    by : (entries : List Operand) → AllByRecursion (IsLive names) entries
-        → ReadsIn text_forms.Rewritten (37 ∷ (n ++ (32 ∷ 61 ∷ 32 ∷ statepoint_front (call_spelled (integer_text 64 id) (type_text ty) (map parameter_text takes) (callee_name names callee) (decimal (length takes))
-        (others (passed_text names) (zip takes os)) (bundles_text names [] entries))))) forms.Statepoint (call_says names id callee takes n ty os (parts.live (map (value_says names tys.Ptr) entries) ∷ []))
-    by [] all = bare_statepoint_line n is.named spells
-    by (entry ∷ entries) all = rw (live_shape (joined (codes ", ") (map (entry_text names) (entry ∷ entries))))
-        (live_statepoint_line n is.named spells (entry_text names) (value_says names tys.Ptr) (entry ∷ entries)
-        (All-from_recursion _ (entry ∷ entries) (each_live names have (entry ∷ entries) all)) (All-from_recursion _ (entry ∷ entries) (each_live_opens names have (entry ∷ entries) all)))
 
 -- ---- results and relocates
 

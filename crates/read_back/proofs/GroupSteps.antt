@@ -1,8 +1,7 @@
 -- The parts of the lines of statepoint groups, where a line prints them.
-use Rattle.std.proofs.Common.{◌≡◌, refl, ap, sym, ◌∙◌, ℕ, suc, Bool, true, false, cond, List, [], ◌∷◌, ◌++◌, map, Option, Some, None, arith, codes, append_assoc, length-append}
+use Rattle.std.proofs.Common.{◌≡◌, refl, ap, sym, ◌∙◌, ℕ, suc, Bool, true, false, cond, List, [], ◌∷◌, ◌++◌, map, Option, Some, None, arith, codes, append_assoc}
 use Rattle.std.specs.List.{All}
 use Rattle.std.specs.Str.{bytes_eq}
-use Rattle.std.proofs.lemmas.Slice.Eq.{bytes_eq-Decides}
 use Rattle.std.proofs.lemmas.List.Elements.{All-head}
 use Rattle.sp_text.specs.Tokens.{Tok, tok, tokens, is_token, is_name}
 use Rattle.sp_text.specs.declared.tokens.Kind.{Kind}
@@ -16,19 +15,19 @@ use Rattle.line_parts.specs.Drops.{past_all, after_bracket}
 use Rattle.line_tokens.specs.Families.{is_result_of, is_family_name}
 use Rattle.ir_printer.specs.Lists.{joined}
 use Rattle.line_parts.specs.Gives.{Found, after, one_at, with_rest, one_noted_at}
-use Rattle.line_parts.specs.Lists.{Given, given, comma, list_to, is_argument_type, is_task_start, passed_at, given_behind}
+use Rattle.line_parts.specs.Lists.{Given, given, comma, is_argument_type, is_task_start, passed_at, given_behind}
 use Rattle.line_tokens.specs.Marks.{is_mark, is_word, begins, stands}
 use Rattle.line_tokens.specs.Numbers.{decimal_from}
-use Rattle.line_parts.specs.Parts.{Val, mark_at, is_value_type, is_answer_type, is_managed, allowed_type_at, spelled_type_at}
+use Rattle.line_parts.specs.Parts.{mark_at, is_value_type, is_answer_type, allowed_type_at, spelled_type_at}
 use Rattle.line_parts.specs.Parts as values
 use Rattle.line_forms.specs.Forms.{callee_type, callee_count}
-use Rattle.line_forms.specs.Slots.{Item, name, ty, types as types_said, handed, live, literal, family_answer, Slot, blank, m, g, a_zero, a_closing, a_family_answer, a_family, a_bracketing, a_token, a_global, some_types, some_handed, some_live, a_result, a_number, part, parse}
-use Rattle.line_parts.specs.Groups.{number_at, is_zero, zero_at, token_at, types_at, takes_own, closing_at, begins_argument, handed_at, live_entry_at, bundle_at, live_at, suffix_of, result_at, family_answer_at, bracketing_at}
+use Rattle.line_forms.specs.Slots.{Item, name, ty, types as types_said, handed, literal, family_answer, Slot, blank, m, g, a_zero, a_closing, a_family_answer, a_family, a_bracketing, a_token, a_global, some_types, some_handed, a_result, a_number, part}
+use Rattle.line_parts.specs.Groups.{number_at, is_zero, zero_at, token_at, types_at, takes_own, closing_at, begins_argument, handed_at, suffix_of, result_at, family_answer_at, bracketing_at}
 use Rattle.read_back.proofs.Steps.{Reads, Stops, IsClean, clean-both, name-clean, one, step, step_to, first_of, stops-kind, mark, word, spaced, space, over_blank, drop_at}
 use Rattle.read_back.proofs.PartSteps.{answer_step}
-use Rattle.read_back.proofs.Spellings.{SpellsType, SpellsValue, SpellsLiteral, allowed, pointer_type}
+use Rattle.read_back.proofs.Spellings.{SpellsType, SpellsLiteral, allowed}
 use Rattle.read_back.proofs.Listed.{SpellsElement, others, comma_spelled, clean_others, ends_others, listed, list_read, list_clean}
-use Rattle.read_back.proofs.ListForms.{EndsAtMark, at_comma, at_closing, closing_tokens, anywhere, goes_by_comma, passed_spelled, passed_opens, step_any}
+use Rattle.read_back.proofs.ListForms.{EndsAtMark, at_comma, at_closing, closing_tokens, anywhere, step_any}
 use Rattle.line_parts.proofs.Dropping.{past_all-none}
 use Rattle.list_laws.proofs.Contents.{same_bytes}
 
@@ -326,65 +325,6 @@ call_step {callee = callee} {ptext = ptext} {psaid = psaid} {ps = ps} {text = te
     (spaced (drop_at drops.BesideElementType (λ more. refl) (over_blank (callee_step callee c.named refl
     (mark 44 refl refl refl (space (number_step (codes "i32") refl refl refl c.counted refl (mark 44 refl refl refl (space (zero_step (others_stop text ys rest)
     (handed_step (is_task_start callee) text said ys c.arguments (closing_step r)))))))))))))))))))))))))))))
-
--- ---- live entries
-
-live_says : {bytes : List ℕ} {v : Val} (s : SpellsValue bytes v) (ts : List Tok) → live_entry_at (tok kinds.Word pointer_type.first ∷ (pointer_type.more ++ (tok s.kind bytes ∷ ts))) ≡ Some (v, ts)
-unfolding live_entry_at after one_noted_at
-live_says {bytes} s ts = rw (allowed (codes "ptr addrspace(1)") types.Managed pointer_type is_managed refl (tok s.kind bytes ∷ ts)) (rw s.says (rw s.within refl))
-
--- `P V`
-pub live_element : {bytes : List ℕ} {v : Val} → SpellsValue bytes v → SpellsElement live_entry_at comma EndsAtMark (codes "ptr addrspace(1)" ++ (32 ∷ bytes)) v
-live_element {bytes} s = record {
-  clean = clean-both (codes "ptr addrspace(1)") (32 ∷ bytes) refl s.clean;
-  says = λ rest ends. rw (passed_spelled pointer_type s rest ends.stop) (live_says s (tokens rest));
-  shorter = λ rest ends. rw (passed_spelled pointer_type s rest ends.stop) (omega (arith, length-append pointer_type.more (tok s.kind bytes ∷ tokens rest)));
-  goes = λ rest ends. goes_by_comma ((codes "ptr addrspace(1)" ++ (32 ∷ bytes)) ++ rest);
-}
-
-pub live_opens : {bytes : List ℕ} {v : Val} → SpellsValue bytes v → (rest : List ℕ) → EndsAtMark rest → begins (is_mark (codes ")")) (tokens ((codes "ptr addrspace(1)" ++ (32 ∷ bytes)) ++ rest)) ≡ false
-live_opens s rest ends = passed_opens pointer_type s rest ends
-
-unfoldable live_word : List ℕ
-live_word = codes "\"gc-live\""
-
-live_part : (vs : List Val) (ts us : List Tok) → list_to live_entry_at (codes ")") ts ≡ Some (vs, tok kinds.Punct (codes ")") ∷ tok kinds.Punct (codes "]") ∷ us)
-    → part some_live (tok kinds.Punct (codes "[") ∷ tok kinds.Quoted live_word ∷ tok kinds.Punct (codes "(") ∷ ts) ≡ Some (live vs ∷ [], us)
-unfolding part after live_at bundle_at one_at live_word
-live_part vs ts us e = rw e refl
-
-live_spelled : (rest : List ℕ) → tokens (codes "[ \"gc-live\"(" ++ rest) ≡ tok kinds.Punct (codes "[") ∷ tok kinds.Quoted live_word ∷ tok kinds.Punct (codes "(") ∷ tokens rest
-unfolding live_word
-live_spelled rest = (mark_then 91 refl (blank_then (token_then kinds.Quoted (codes "\"gc-live\"") refl refl (mark_then 40 refl (as_is rest))))).is
-
--- `[ "gc-live"(P V, ..) ]`
-pub live_step : {f : List Slot} {rest : List ℕ} {first : Option Tok} {items : List Item} {Y : Type 0} (text : Y → List ℕ) (said : Y → Val) (ys : List Y)
-    → All (λ y. SpellsElement live_entry_at comma EndsAtMark (text y) (said y)) ys → Opens text ys
-    → Reads f rest first items → Reads (some_live ∷ f) (codes "[ \"gc-live\"(" ++ (joined (codes ", ") (map text ys) ++ (codes ") ]" ++ rest))) (Some (tok kinds.Punct (codes "["))) (live (map said ys) ∷ items)
-live_step {rest = rest} text said ys each opens r =
-    let body : List ℕ = joined (codes ", ") (map text ys) ++ (codes ") ]" ++ rest) in
-    let found : list_to live_entry_at (codes ")") (tokens body) ≡ Some (map said ys, tok kinds.Punct (codes ")") ∷ tok kinds.Punct (codes "]") ∷ tokens rest) =
-    list_read live_entry_at (codes ")") EndsAtMark text said (λ y rest e ends. at_comma (text y ++ rest)) ys (codes ") ]" ++ rest) each opens (at_closing (codes " ]" ++ rest)) (rw (closing_tokens (codes " ]" ++ rest)) refl) (rw (closing_tokens (codes " ]" ++ rest)) refl)
-    ∙ ap (λ ts. Some (map said ys, ts)) (mark_then 41 refl (blank_then (mark_then 93 refl (as_is rest)))).is in
-    step_to some_live (codes "[ \"gc-live\"(" ++ body) (tok kinds.Punct (codes "[")) _ (live (map said ys) ∷ [])
-    (clean-both (joined (codes ", ") (map text ys)) (codes ") ]" ++ rest) (list_clean live_entry_at comma EndsAtMark text said (λ y rest e ends. at_comma (text y ++ rest)) ys each) r.clean)
-    (live_spelled body) (live_part (map said ys) (tokens body) (tokens rest) found) r
-
-nothing_left : (ts : List Tok) → first_of ts ≡ None → ts ≡ []
-nothing_left [] e = refl
-nothing_left (t ∷ ts) e = cc
-
-no_live_part : part some_live [] ≡ Some (live [] ∷ [], [])
-unfolding part after live_at
-no_live_part = refl
-
--- no bundle stands there
-pub no_live : {f : List Slot} {items : List Item} → Reads f [] None items → Reads (some_live ∷ f) [] None (live [] ∷ items)
-unfolding parse after
-no_live {f} {items} r = record { whole = rw e (rw no_live_part (rw (rw e at r.whole) refl)); begins = r.begins; clean = refl }
-  where
-    e : tokens [] ≡ []
-    e = nothing_left (tokens []) r.begins
 
 -- ---- results
 

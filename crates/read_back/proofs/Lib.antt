@@ -6,10 +6,12 @@ pub mod Forms
 pub mod Listed
 pub mod ListForms
 pub mod GroupSteps
+pub mod BundleSteps
 pub mod FormsIn
 pub mod GroupForms
 pub mod LinesRead
 pub mod Operands
+pub mod BundleLines
 pub mod OneLine
 pub mod MoreLines
 pub mod StepLines

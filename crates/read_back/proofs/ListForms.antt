@@ -17,7 +17,7 @@ use Rattle.line_parts.specs.Drops.{past_dropped}
 use Rattle.line_parts.specs.Parts.{Val, is_value_type, is_answer_type, allowed_type_at, spelled_type_at, pointer_at, value_at}
 use Rattle.line_parts.specs.Lists.{Named, Given, given, function, listed_at, list_to, comma, argument_at, is_argument_type, is_task_start, head_at, given_behind, passed_at, called_at, entry_at, begins_entry}
 use Rattle.line_forms.specs.Forms.{slots, form_of, named_form, word_form}
-use Rattle.line_forms.specs.Slots.{Item, name, layout_name, ty, fields, entries, declared, defined, called, strategy, Slot, blank, m, w, some_fields, some_entries, a_declared, a_defined, a_called, part, parse}
+use Rattle.line_forms.specs.Slots.{Item, name, layout_name, ty, fields, entries, declared, defined, called, strategy, Slot, blank, m, w, some_fields, some_entries, a_declared, a_defined, a_called, some_deopt, dropped, part, parse}
 use Rattle.ir_printer.specs.Lists.{joined}
 use Rattle.read_back.proofs.Steps.{Reads, Stops, IsClean, clean-both, name-clean, stops-kind, end, step_to, mark, word, layout_head, spaced, space, over_blank, drop_at, drop_end, first_of}
 use Rattle.read_back.proofs.Spellings.{SpellsType, SpellsValue, allowed}
@@ -53,6 +53,17 @@ at_brace rest = record { stop = refl; spelled = codes "}"; begins_so = rw (brace
 
 pub goes_by_comma : (text : List ℕ) → comma (tokens (44 ∷ 32 ∷ text)) ≡ true
 goes_by_comma text = rw (comma_spelled text) refl
+
+-- elements in parentheses, with commas between them
+module _ {A Y : Type 0} (element : List Tok → Found A) (text : Y → List ℕ) (said : Y → A) (ys : List Y) (each : All (λ y. SpellsElement element comma EndsAtMark (text y) (said y)) ys) where
+  pub elements_clean : IsClean (joined (codes ", ") (map text ys))
+  elements_clean = list_clean element comma EndsAtMark text said (λ y rest e ends. at_comma (text y ++ rest)) ys each
+
+  pub to_closing : All (λ y. (rest : List ℕ) → EndsAtMark rest → begins (is_mark (codes ")")) (tokens (text y ++ rest)) ≡ false) ys → (rest : List ℕ)
+      → list_to element (codes ")") (tokens (joined (codes ", ") (map text ys) ++ (41 ∷ rest))) ≡ Some (map said ys, tok kinds.Punct (codes ")") ∷ tokens rest)
+  to_closing opens rest =
+      list_read element (codes ")") EndsAtMark text said (λ y rest e ends. at_comma (text y ++ rest)) ys (41 ∷ rest) each opens (at_closing rest) (rw (closing_tokens rest) refl) (rw (closing_tokens rest) refl)
+      ∙ ap (λ ts. Some (map said ys, ts)) (closing_tokens rest)
 
 -- ---- fields
 
@@ -127,12 +138,9 @@ pub defined_step : {f : List Slot} {rest : List ℕ} {first : Option Tok} {items
     → All (λ y. (rest : List ℕ) → EndsAtMark rest → begins (is_mark (codes ")")) (tokens (text y ++ rest)) ≡ false) ys
     → Reads f rest first items → Reads (a_defined ∷ f) (64 ∷ (n ++ (40 ∷ (joined (codes ", ") (map text ys) ++ (41 ∷ rest))))) (Some (tok kinds.Global (64 ∷ n))) (defined n (map said ys) ∷ items)
 defined_step {rest = rest} n is text said ys each opens r =
-    let found : list_to (argument_at false) (codes ")") (tokens (joined (codes ", ") (map text ys) ++ (41 ∷ rest))) ≡ Some (map said ys, tok kinds.Punct (codes ")") ∷ tokens rest) =
-    list_read (argument_at false) (codes ")") EndsAtMark text said (λ y rest e ends. at_comma (text y ++ rest)) ys (41 ∷ rest) each opens (at_closing rest) (rw (closing_tokens rest) refl) (rw (closing_tokens rest) refl)
-    ∙ ap (λ ts. Some (map said ys, ts)) (closing_tokens rest) in
     step_to a_defined _ (tok kinds.Global (64 ∷ n)) _ (defined n (map said ys) ∷ [])
-    (head_clean n (joined (codes ", ") (map text ys)) rest is (list_clean (argument_at false) comma EndsAtMark text said (λ y rest e ends. at_comma (text y ++ rest)) ys each) r.clean) (head_tokens n is (joined (codes ", ") (map text ys) ++ (41 ∷ rest)))
-    (defined_part n is (map said ys) _ (tokens rest) found) r
+    (head_clean n (joined (codes ", ") (map text ys)) rest is (elements_clean (argument_at false) text said ys each) r.clean) (head_tokens n is (joined (codes ", ") (map text ys) ++ (41 ∷ rest)))
+    (defined_part n is (map said ys) _ (tokens rest) (to_closing (argument_at false) text said ys each opens rest)) r
 
 define_form : (more : List Tok) → word_form (codes "define") more ≡ Some forms.Define
 unfolding word_form
@@ -182,14 +190,19 @@ passed_spelled {text} {bytes} t s rest stop =
     rw (append_assoc text (32 ∷ bytes) rest) (t.spelled (32 ∷ (bytes ++ rest)) refl
     ∙ ap (λ ts. tok kinds.Word t.first ∷ (t.more ++ ts)) (tokens-blank 32 (bytes ++ rest) refl ∙ tokens-spelled s.kind bytes rest s.is (stops-kind s.kind rest stop)))
 
-pub passed_element : {text bytes : List ℕ} {of_type : TypeWord} {v : Val} (plain : Bool) → SpellsType text of_type → is_value_type of_type ≡ true → SpellsValue bytes v
-    → SpellsElement (passed_at plain) comma EndsAtMark (text ++ (32 ∷ bytes)) (given of_type v)
-passed_element {text} {bytes} {of_type} plain t allow s = record {
+-- `T V`, of which an element is read
+pub typed_element : {A : Type 0} {text bytes : List ℕ} {of_type : TypeWord} {v : Val} (element : List Tok → Found A) (t : SpellsType text of_type) (s : SpellsValue bytes v) (x : A)
+    → ((ts : List Tok) → element (tok kinds.Word t.first ∷ (t.more ++ (tok s.kind bytes ∷ ts))) ≡ Some (x, ts)) → SpellsElement element comma EndsAtMark (text ++ (32 ∷ bytes)) x
+typed_element {text = text} {bytes = bytes} element t s x says = record {
   clean = clean-both text (32 ∷ bytes) t.clean s.clean;
-  says = λ rest ends. rw (passed_spelled t s rest ends.stop) (passed_says plain t allow s (tokens rest));
+  says = λ rest ends. rw (passed_spelled t s rest ends.stop) (says (tokens rest));
   shorter = λ rest ends. rw (passed_spelled t s rest ends.stop) (omega (arith, length-append t.more (tok s.kind bytes ∷ tokens rest)));
   goes = λ rest ends. goes_by_comma ((text ++ (32 ∷ bytes)) ++ rest);
 }
+
+pub passed_element : {text bytes : List ℕ} {of_type : TypeWord} {v : Val} (plain : Bool) → SpellsType text of_type → is_value_type of_type ≡ true → SpellsValue bytes v
+    → SpellsElement (passed_at plain) comma EndsAtMark (text ++ (32 ∷ bytes)) (given of_type v)
+passed_element {of_type = of_type} {v = v} plain t allow s = typed_element (passed_at plain) t s (given of_type v) (passed_says plain t allow s)
 
 pub passed_opens : {text bytes : List ℕ} {of_type : TypeWord} {v : Val} (t : SpellsType text of_type) (s : SpellsValue bytes v) (rest : List ℕ) → EndsAtMark rest
     → begins (is_mark (codes ")")) (tokens ((text ++ (32 ∷ bytes)) ++ rest)) ≡ false
@@ -205,42 +218,45 @@ pub called_step : {f : List Slot} {rest : List ℕ} {first : Option Tok} {items 
     → All (λ y. (rest : List ℕ) → EndsAtMark rest → begins (is_mark (codes ")")) (tokens (text y ++ rest)) ≡ false) ys
     → Reads f rest first items → Reads (a_called ∷ f) (64 ∷ (n ++ (40 ∷ (joined (codes ", ") (map text ys) ++ (41 ∷ rest))))) (Some (tok kinds.Global (64 ∷ n))) (called n (map said ys) ∷ items)
 called_step {rest = rest} n is text said ys each opens r =
-    let found : list_to (passed_at (is_task_start n)) (codes ")") (tokens (joined (codes ", ") (map text ys) ++ (41 ∷ rest))) ≡ Some (map said ys, tok kinds.Punct (codes ")") ∷ tokens rest) =
-    list_read (passed_at (is_task_start n)) (codes ")") EndsAtMark text said (λ y rest e ends. at_comma (text y ++ rest)) ys (41 ∷ rest) each opens (at_closing rest) (rw (closing_tokens rest) refl) (rw (closing_tokens rest) refl)
-    ∙ ap (λ ts. Some (map said ys, ts)) (closing_tokens rest) in
     step_to a_called _ (tok kinds.Global (64 ∷ n)) _ (called n (map said ys) ∷ [])
-    (head_clean n (joined (codes ", ") (map text ys)) rest is (list_clean (passed_at (is_task_start n)) comma EndsAtMark text said (λ y rest e ends. at_comma (text y ++ rest)) ys each) r.clean) (head_tokens n is (joined (codes ", ") (map text ys) ++ (41 ∷ rest)))
-    (called_part n is (map said ys) _ (tokens rest) found) r
+    (head_clean n (joined (codes ", ") (map text ys)) rest is (elements_clean (passed_at (is_task_start n)) text said ys each) r.clean) (head_tokens n is (joined (codes ", ") (map text ys) ++ (41 ∷ rest)))
+    (called_part n is (map said ys) _ (tokens rest) (to_closing (passed_at (is_task_start n)) text said ys each opens rest)) r
 
 value_call_form : (more : List Tok) → named_form (codes "call") more ≡ Some forms.ValueCall
 unfolding named_form
 value_call_form more = refl
 
--- `%x = call T @f(T V, ..)`
+-- behind the arguments of a call: attribute groups, and what it keeps
+abbrev pub call_end : List Slot
+call_end = dropped drops.Groups ∷ some_deopt ∷ dropped drops.Attachments ∷ []
+
+-- `%x = call T @f(T V, ..)`, and what follows
 pub value_call_line : (n : List ℕ) → is_name n ≡ true → {spelled : List ℕ} {answer : TypeWord} → SpellsType spelled answer → is_value_type answer ≡ true
     → {Y : Type 0} (o : List ℕ) → is_name o ≡ true → (text : Y → List ℕ) (said : Y → Given) (ys : List Y)
     → All (λ y. SpellsElement (passed_at (is_task_start o)) comma EndsAtMark (text y) (said y)) ys
     → All (λ y. (rest : List ℕ) → EndsAtMark rest → begins (is_mark (codes ")")) (tokens (text y ++ rest)) ≡ false) ys
-    → ReadsAs (37 ∷ (n ++ (32 ∷ 61 ∷ 32 ∷ (codes "call " ++ (spelled ++ (32 ∷ 64 ∷ (o ++ (40 ∷ (joined (codes ", ") (map text ys) ++ codes ")")))))))))
-    forms.ValueCall (name n ∷ ty answer ∷ called o (map said ys) ∷ [])
-value_call_line n is t allow o o_is text said ys each opens =
+    → {rest : List ℕ} {first : Option Tok} {items : List Item} → Reads call_end rest first items
+    → ReadsAs (37 ∷ (n ++ (32 ∷ 61 ∷ 32 ∷ (codes "call " ++ (spelled ++ (32 ∷ 64 ∷ (o ++ (40 ∷ (joined (codes ", ") (map text ys) ++ (41 ∷ rest))))))))))
+    forms.ValueCall (name n ∷ ty answer ∷ called o (map said ys) ∷ items)
+value_call_line n is t allow o o_is text said ys each opens r =
     named_line n (codes "call") forms.ValueCall is value_call_form refl
     (drop_at (drops.Words flags.Calling) (λ more. refl) (word (codes "call") refl refl refl refl (spaced (drop_at drops.Groups t.group (over_blank (type_step t allow refl
-    (space (called_step o o_is text said ys each opens (drop_end drops.Groups (drop_end drops.Attachments end))))))))))
+    (space (called_step o o_is text said ys each opens r))))))))
 
 void_call_form : (more : List Tok) → word_form (codes "call") more ≡ Some forms.VoidCall
 unfolding word_form
 void_call_form more = refl
 
--- `call void @f(T V, ..)`
+-- `call void @f(T V, ..)`, and what follows
 pub void_call_line : {Y : Type 0} (o : List ℕ) → is_name o ≡ true → (text : Y → List ℕ) (said : Y → Given) (ys : List Y)
     → All (λ y. SpellsElement (passed_at (is_task_start o)) comma EndsAtMark (text y) (said y)) ys
     → All (λ y. (rest : List ℕ) → EndsAtMark rest → begins (is_mark (codes ")")) (tokens (text y ++ rest)) ≡ false) ys
-    → ReadsAs (codes "call void @" ++ (o ++ (40 ∷ (joined (codes ", ") (map text ys) ++ codes ")")))) forms.VoidCall (called o (map said ys) ∷ [])
-void_call_line o o_is text said ys each opens =
+    → {rest : List ℕ} {first : Option Tok} {items : List Item} → Reads call_end rest first items
+    → ReadsAs (codes "call void @" ++ (o ++ (40 ∷ (joined (codes ", ") (map text ys) ++ (41 ∷ rest))))) forms.VoidCall (called o (map said ys) ∷ items)
+void_call_line o o_is text said ys each opens r =
     word_line (codes "call") forms.VoidCall void_call_form
     (drop_at (drops.Words flags.Calling) (λ more. refl) (word (codes "call") refl refl refl refl (spaced (drop_at drops.Groups (λ more. refl) (over_blank (word (codes "void") refl refl refl refl
-    (space (called_step o o_is text said ys each opens (drop_end drops.Groups (drop_end drops.Attachments end))))))))))
+    (space (called_step o o_is text said ys each opens r))))))))
 
 -- ---- phis
 
@@ -383,12 +399,9 @@ pub declared_step : {f : List Slot} {rest : List ℕ} {first : Option Tok} {item
     → All (λ y. (rest : List ℕ) → EndsAtMark rest → begins (is_mark (codes ")")) (tokens (text y ++ rest)) ≡ false) ys
     → Reads f rest first items → Reads (a_declared ∷ f) (64 ∷ (n ++ (40 ∷ (joined (codes ", ") (map text ys) ++ (41 ∷ rest))))) (Some (tok kinds.Global (64 ∷ n))) (declared n (map said ys) ∷ items)
 declared_step {rest = rest} n is text said ys each opens r =
-    let found : list_to (argument_at (is_task_start n)) (codes ")") (tokens (joined (codes ", ") (map text ys) ++ (41 ∷ rest))) ≡ Some (map said ys, tok kinds.Punct (codes ")") ∷ tokens rest) =
-    list_read (argument_at (is_task_start n)) (codes ")") EndsAtMark text said (λ y rest e ends. at_comma (text y ++ rest)) ys (41 ∷ rest) each opens (at_closing rest) (rw (closing_tokens rest) refl) (rw (closing_tokens rest) refl)
-    ∙ ap (λ ts. Some (map said ys, ts)) (closing_tokens rest) in
     step_to a_declared _ (tok kinds.Global (64 ∷ n)) _ (declared n (map said ys) ∷ [])
-    (head_clean n (joined (codes ", ") (map text ys)) rest is (list_clean (argument_at (is_task_start n)) comma EndsAtMark text said (λ y rest e ends. at_comma (text y ++ rest)) ys each) r.clean) (head_tokens n is (joined (codes ", ") (map text ys) ++ (41 ∷ rest)))
-    (declared_part n is (map said ys) _ (tokens rest) found) r
+    (head_clean n (joined (codes ", ") (map text ys)) rest is (elements_clean (argument_at (is_task_start n)) text said ys each) r.clean) (head_tokens n is (joined (codes ", ") (map text ys) ++ (41 ∷ rest)))
+    (declared_part n is (map said ys) _ (tokens rest) (to_closing (argument_at (is_task_start n)) text said ys each opens rest)) r
 
 declare_form : (more : List Tok) → word_form (codes "declare") more ≡ Some forms.Declare
 unfolding word_form

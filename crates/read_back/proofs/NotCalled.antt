@@ -11,6 +11,7 @@ use Rattle.ir_ast.specs.Insts.{Instruction}
 use Rattle.ir_ast.specs.Blocks.{BasicBlock}
 use Rattle.ir_ast.specs.Funcs.{Function}
 use Rattle.ir_ast.specs.Modules.{ModuleContent}
+use Rattle.ir_cfg.specs.TypedModules.{IsTypedModule}
 use Rattle.ir_ast.specs.Lines.{is_rewritten}
 use Rattle.ir_ast.specs.Callees.{is_helper}
 use Rattle.print_tables.specs.declared.externals.External.TheVariants as externs
@@ -18,7 +19,7 @@ use Rattle.print_tables.specs.declared.externals.External.{External}
 use Rattle.ir_ast.specs.declared.modules.Form.TheVariants.{Source}
 use Rattle.ir_printer.specs.Declarations.{is_callee, is_call_of, calls}
 use Rattle.read_back.proofs.BackInsts.{IsPrinted}
-use Rattle.read_back.proofs.BackModules.{IsBare, names_in, printed}
+use Rattle.read_back.proofs.BackModules.{names_in, printed}
 
 -- the declaration of an external of source modules
 abbrev pub is_of_source : External → Bool
@@ -72,6 +73,6 @@ each_of {X} xs P each = over xs (recursion_from_All (Contains xs) xs (All-contai
     over [] all = tt
     over (y ∷ ys) all = (each y all.0, over ys all.1)
 
-pub not_called_in : (content : ModuleContent) → IsBare Source content → (e : External) → is_of_source e ≡ false → calls content.funcs e ≡ false
+pub not_called_in : (content : ModuleContent) → IsTypedModule Source content → (e : External) → is_of_source e ≡ false → calls content.funcs e ≡ false
 not_called_in content source e other =
     not_in content e other content.funcs (each_of content.funcs (FunctionIsPrinted content) (λ func c. printed content source func c))

@@ -99,6 +99,10 @@ one_in of names inst alone one = record {
 abbrev pub made : Option (List ℕ) → Op → Ty → List Operand → List BlockId → Instruction
 made result op of_type operands labels = record { result = result; op = op; ty = of_type; operands = operands; labels = labels; bundle = [] }
 
+-- a call or a statepoint
+abbrev pub calling : Option (List ℕ) → Op → Ty → List Operand → List (Ty × Operand) → Instruction
+calling result op of_type operands bundle = record { result = result; op = op; ty = of_type; operands = operands; labels = []; bundle = bundle }
+
 binary_shape : (names : Names) (op : Binary) (o : Op) (n : List ℕ) (bits : ℕ) (a b : Operand)
     → result_front (Some n) ++ arithmetic_text names (binary_word op) (made (Some n) o (tys.Int bits) (a ∷ b ∷ []) [])
     ≡ 37 ∷ (n ++ (32 ∷ 61 ∷ 32 ∷ (binary_word op ++ (32 ∷ 105 ∷ (decimal bits ++ (32 ∷ (value_text names (tys.Int bits) a ++ (44 ∷ 32 ∷ value_text names (tys.Int bits) b))))))))

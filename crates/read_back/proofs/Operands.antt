@@ -14,6 +14,7 @@ use Rattle.ir_ast.specs.declared.ops.Operand.{Operand}
 use Rattle.ir_ast.specs.declared.ops.Operand.TheVariants as operands
 use Rattle.ir_ast.specs.Operands.{is_value}
 use Rattle.ir_ast.specs.Types.{is_first_class}
+use Rattle.ir_ast.specs.Widths.{IsWidth, type_widths}
 use Rattle.ir_ast.specs.Values.{definitions_of, definition_name, definition_type, value_types}
 use Rattle.ir_ast.specs.Faults.TypeClash.{Fits}
 use Rattle.ir_printer.specs.Names.{Names, layout_name, function_name, block_name, value_name}
@@ -64,6 +65,12 @@ function-own names have f low = tested_at is_family_name false (λ func. func.na
 abbrev pub IsNarrow : Ty → Type 0
 IsNarrow (tys.Int width) = (1 ≤ width) × (width ≤ 64)
 IsNarrow _ = Unit {0}
+
+pub narrow_of : (ty : Ty) → All IsWidth (type_widths ty) → IsNarrow ty
+narrow_of tys.Void widths = tt
+narrow_of (tys.Int width) widths = All-head IsWidth width [] widths
+narrow_of tys.Ptr widths = tt
+narrow_of tys.Token widths = tt
 
 pub type_spelled : (ty : Ty) → is_first_class ty ≡ true → IsNarrow ty → SpellsType (type_text ty) (word_of ty)
 type_spelled tys.Void first narrow = absurd cc

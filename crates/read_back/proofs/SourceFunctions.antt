@@ -13,9 +13,9 @@ use Rattle.ir_ast.specs.Insts.{Instruction}
 use Rattle.ir_ast.specs.Blocks.{BasicBlock}
 use Rattle.ir_ast.specs.Funcs.{Function, instructions_of}
 use Rattle.ir_ast.specs.Modules.{ModuleContent}
-use Rattle.ir_cfg.specs.TypedModules.{IsTypedFunction}
+use Rattle.ir_cfg.specs.TypedModules.{IsTypedFunction, IsTypedModule}
 use Rattle.read_back.proofs.BackInsts.{split_all}
-use Rattle.read_back.proofs.BackModules.{IsBare, form_of}
+use Rattle.read_back.proofs.BackModules.{form_of}
 use Rattle.read_back.proofs.Blocks.{run, RunsFit}
 use Rattle.read_back.proofs.FunctionsPrinted.{FunctionIsReadable}
 
@@ -42,13 +42,13 @@ blocks_plain [] plain = tt
 blocks_plain (block ∷ blocks) plain =
     let parts = split_all IsPlain block.insts (instructions_of blocks) plain in (runs_plain block.insts 0 parts.0, blocks_plain blocks parts.1)
 
-pub source_readable : (content : ModuleContent) → IsBare Source content → (func : Function) → Contains content.funcs func → FunctionIsReadable Source func
+pub source_readable : (content : ModuleContent) → IsTypedModule Source content → (func : Function) → Contains content.funcs func → FunctionIsReadable Source func
 source_readable content source func c = record {
   plain = λ is. plain;
   few = All-weaker IsPlain (λ (inst : Instruction). length (entries_of inst) ≤ 16384) (λ inst is. live_plain inst.op inst.operands is) (instructions_of func.blocks) plain;
   runs = blocks_plain func.blocks (recursion_from_All IsPlain (instructions_of func.blocks) plain);
-  values = (All-contains (IsTypedFunction Source) content.funcs func source.typed.functions c).small;
+  values = (All-contains (IsTypedFunction Source) content.funcs func source.functions c).small;
 }
   where
     plain : All IsPlain (instructions_of func.blocks)
-    plain = (form_of content.form func source.typed.of_form (All-contains (FunctionHasNoFault content) content.funcs func source.typed.no_fault.functions c).form).lines
+    plain = (form_of content.form func source.of_form (All-contains (FunctionHasNoFault content) content.funcs func source.no_fault.functions c).form).lines

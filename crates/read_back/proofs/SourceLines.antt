@@ -46,27 +46,23 @@ use Rattle.line_parts.specs.Parts.{is_scalar_type}
 use Rattle.read_back.specs.Said.{width_in, result_of, parameter_says, operator_says, binary_says, convert_says}
 use Rattle.read_back.proofs.Fronts.{FunctionsOf, later_functions, front_fit, zip_take, front_functions}
 use Rattle.read_back.proofs.BackLists.{CalleeBelow}
-use Rattle.read_back.proofs.BackInsts.{IsPrintedIn, split_all, callee_parts, passed_functions}
-use Rattle.read_back.proofs.BackLines.{result-is, no_result, integer-is, void-is, pointer-is, condition-is}
-use Rattle.read_back.proofs.Operands.{HaveNames, IsNarrow, in_types}
+use Rattle.read_back.proofs.BackInsts.{IsPrintedIn, split_all, callee_parts, passed_functions, kept_of}
+use Rattle.read_back.proofs.BackNames.{IsKept}
+use Rattle.read_back.proofs.BackLines.{by_parts, result-is, no_result, integer-is, void-is, pointer-is, condition-is}
+use Rattle.read_back.proofs.Operands.{HaveNames, IsNarrow, narrow_of, in_types}
 use Rattle.read_back.proofs.OneLine.{OneLine, LineIn, counted_as, one_in, made, binary_reads, compare_reads, load_reads, store_reads, jump_reads, return_void_reads, unreachable_reads}
 use Rattle.read_back.proofs.MoreLines.{convert_reads, select_reads, branch_reads, return_reads}
 use Rattle.read_back.proofs.StepLines.{integer_step_reads, pointer_step_reads, layout_step_reads, field_step_reads}
 use Rattle.read_back.proofs.CallLines.{PassedReads, passed_given, value_passed, function_passed, value_call_reads, void_call_reads, EntryFits, phi_reads}
-use Rattle.read_back.proofs.GroupLines.{IsTaken, IsLive, IsGuarded, statepoint_reads, result_reads, relocate_reads}
+use Rattle.read_back.proofs.BundleLines.{IsLive}
+use Rattle.read_back.proofs.GroupLines.{IsTaken, IsGuarded, statepoint_reads, result_reads, relocate_reads}
 use Rattle.read_back.proofs.SwitchLines.{CaseFits, switch_says_so}
 use Rattle.read_back.proofs.Chains.{InstSays, line_says}
 
--- an instruction by its parts
+-- an instruction by its parts, which keeps nothing
 made_is : (inst : Instruction) (result : Option (List ℕ)) (op : Op) (ty : Ty) (os : List Operand) (labels : List BlockId)
     → result ≡ inst.result → op ≡ inst.op → ty ≡ inst.ty → os ≡ inst.operands → labels ≡ inst.labels → inst.bundle ≡ [] → made result op ty os labels ≡ inst
-made_is inst result op ty os labels r o t p l b =
-    ap (λ (x : Option (List ℕ)). made x op ty os labels) r
-    ∙ ap (λ (x : Op). made inst.result x ty os labels) o
-    ∙ ap (λ (x : Ty). made inst.result inst.op x os labels) t
-    ∙ ap (λ (x : List Operand). made inst.result inst.op inst.ty x labels) p
-    ∙ ap (λ (x : List BlockId). made inst.result inst.op inst.ty inst.operands x) l
-    ∙ ap (λ (x : List (Ty × Operand)). record { result = inst.result; op = inst.op; ty = inst.ty; operands = inst.operands; labels = inst.labels; bundle = x }) (sym b)
+made_is inst result op ty os labels r o t p l b = by_parts inst result op ty os labels [] r o t p l (sym b)
 
 -- a value that fits a type
 abbrev Fit : Names → Operand → Ty → Type 0
@@ -103,16 +99,11 @@ same_fit : (names : Names) (inst : Instruction) (n : ℕ) → length inst.operan
 same_fit names inst n count value fit =
     fit_each names inst.operands (replicate n inst.ty) (subst (λ (k : ℕ). AllZip (Fits (value_types names.func)) inst.operands (replicate k inst.ty)) count fit) value
 
-pub narrow_of : (ty : Ty) → All IsWidth (type_widths ty) → IsNarrow ty
-narrow_of tys.Void widths = tt
-narrow_of (tys.Int width) widths = All-head IsWidth width [] widths
-narrow_of tys.Ptr widths = tt
-narrow_of tys.Token widths = tt
-
 -- what is known of an instruction, and that its result has a name of texts
 pub record IsPrintable (of : TextForm) (names : Names) (op : Op) (inst : Instruction) : Type 0 where
   pub printed : IsPrintedIn of names op inst
   pub named : is_some inst.result ≡ true → is_name (result_of inst) ≡ true
+  pub kept : length inst.bundle ≤ 64
   -- of a statepoint
   pub few : length (live_entries op inst.operands) ≤ 16384
   pub counted : (id : ℕ) (callee : Callee) (takes : List Ty) → op ≡ ops.Statepoint id callee takes → length takes < 2 ^ 64
@@ -267,20 +258,23 @@ call_reads names have callee ts inst p = by (is_void inst.ty) refl
     there = callee_parts names callee ts inst p.printed.layouts p.printed.functions
 
     passed : FunctionsOf (λ named. named < length names.funcs) inst.operands
-    passed = passed_functions (λ named. named < length names.funcs) inst p.printed.bundle there.1
+    passed = passed_functions (λ named. named < length names.funcs) inst there.1
 
     all : AllByRecursion (PassedReads (is_task_start (callee_name names callee)) names) (zip ts inst.operands)
     all = arguments_read names have callee inst.operands ts p.printed.fits p.printed.line.arguments passed (recursion_from_All IsWidth (flat_map type_widths ts) p.printed.own_widths)
 
+    kept : AllByRecursion (IsKept names) inst.bundle
+    kept = kept_of names (ops.Call callee ts) inst p.printed p.printed.line.bundle
+
     by : (void : Bool) → is_void inst.ty ≡ void → Reads names inst
     by true is =
         let none : is_some inst.result ≡ false = p.printed.line.result ∙ ap not is in
-        subst (Reads names) (made_is inst None (ops.Call callee ts) tys.Void inst.operands [] (no_result inst.result none) p.printed.is (void-is inst.ty is) refl (sym p.printed.line.no_labels) p.printed.bundle)
-        (void_call_reads names have callee ts inst.operands there.0 all)
+        subst (Reads names) (by_parts inst None (ops.Call callee ts) tys.Void inst.operands [] inst.bundle (no_result inst.result none) p.printed.is (void-is inst.ty is) refl (sym p.printed.line.no_labels) refl)
+        (void_call_reads names have callee ts inst.operands inst.bundle there.0 all kept p.kept)
     by false is =
         let some : is_some inst.result ≡ true = p.printed.line.result ∙ ap not is in
-        subst (Reads names) (made_is inst (Some (result_of inst)) (ops.Call callee ts) inst.ty inst.operands [] (result-is inst.result some) p.printed.is refl refl (sym p.printed.line.no_labels) p.printed.bundle)
-        (value_call_reads names have callee ts (result_of inst) inst.ty inst.operands (p.named some) (answer_is inst.ty p.printed.line.type is) (narrow_of inst.ty p.printed.widths) there.0 all)
+        subst (Reads names) (by_parts inst (Some (result_of inst)) (ops.Call callee ts) inst.ty inst.operands [] inst.bundle (result-is inst.result some) p.printed.is refl refl (sym p.printed.line.no_labels) refl)
+        (value_call_reads names have callee ts (result_of inst) inst.ty inst.operands inst.bundle (p.named some) (answer_is inst.ty p.printed.line.type is) (narrow_of inst.ty p.printed.widths) there.0 all kept p.kept)
 
 -- ---- phis and switches
 
@@ -496,14 +490,14 @@ takes_its_own names callees.Same os ts arguments = no_pointers names callees.Sam
 
 statepoint_case : {of : TextForm} (names : Names) → HaveNames names → (id : ℕ) (callee : Callee) (takes : List Ty) (inst : Instruction) → IsPrintable of names (ops.Statepoint id callee takes) inst → LineIn text_forms.Rewritten names inst
 statepoint_case names have id callee takes inst p =
-    subst (LineIn text_forms.Rewritten names) (made_is inst (Some (result_of inst)) (ops.Statepoint id callee takes) inst.ty inst.operands [] (result-is inst.result p.printed.line.result) p.printed.is refl refl (sym p.printed.line.no_labels) p.printed.bundle)
-    (statepoint_reads names have id callee takes (result_of inst) inst.ty inst.operands guarded)
+    subst (LineIn text_forms.Rewritten names) (by_parts inst (Some (result_of inst)) (ops.Statepoint id callee takes) inst.ty inst.operands [] inst.bundle (result-is inst.result p.printed.line.result) p.printed.is refl refl (sym p.printed.line.no_labels) refl)
+    (statepoint_reads names have id callee takes (result_of inst) inst.ty inst.operands inst.bundle guarded (kept_of names (ops.Statepoint id callee takes) inst p.printed p.printed.line.bundle) p.kept)
   where
     there : CalleeBelow names callee × AllByRecursion (λ named. named < length names.funcs) (functions_named (record inst { op = ops.Load }))
     there = callee_parts names callee takes inst p.printed.layouts p.printed.functions
 
     functions : FunctionsOf (λ named. named < length names.funcs) inst.operands
-    functions = passed_functions (λ named. named < length names.funcs) inst p.printed.bundle there.1
+    functions = passed_functions (λ named. named < length names.funcs) inst there.1
 
     front : List Operand
     front = take (length takes) inst.operands

@@ -15,8 +15,7 @@ use Rattle.ir_ast.specs.Insts.{Instruction}
 use Rattle.ir_ast.specs.Funcs.{Function, instructions_of}
 use Rattle.ir_ast.specs.Modules.{ModuleContent}
 use Rattle.ir_cfg.specs.Statepoints.{StatepointsAreSmall}
-use Rattle.ir_cfg.specs.TypedModules.{IsTypedFunction}
-use Rattle.read_back.proofs.BackModules.{IsBare}
+use Rattle.ir_cfg.specs.TypedModules.{IsTypedFunction, IsTypedModule}
 use Rattle.read_back.proofs.FunctionsPrinted.{FunctionIsReadable}
 use Rattle.read_back.proofs.Rows.{runs_fit}
 
@@ -35,16 +34,16 @@ entries_few func small = λ k d low. at k (get_or (instructions_of func.blocks) 
         by true is = (small place inst stands is).0
         by false is = no_entries inst.op inst.operands is
 
-pub target_readable : (content : ModuleContent) → IsBare Rewritten content → (func : Function) → Contains content.funcs func → FunctionIsReadable Rewritten func
+pub target_readable : (content : ModuleContent) → IsTypedModule Rewritten content → (func : Function) → Contains content.funcs func → FunctionIsReadable Rewritten func
 target_readable content target func c = record {
   plain = λ is. absurd (let bad : Rewritten ≡ Source = is in cc);
   few = entries_few func small;
-  runs = runs_fit func (subst (λ (form : Form). OfForm form func) target.typed.of_form (All-contains (FunctionHasNoFault content) content.funcs func target.typed.no_fault.functions c).form) small;
+  runs = runs_fit func (subst (λ (form : Form). OfForm form func) target.of_form (All-contains (FunctionHasNoFault content) content.funcs func target.no_fault.functions c).form) small;
   values = omega (arith, few);
 }
   where
     small : StatepointsAreSmall func
-    small = (All-contains (IsTypedFunction Rewritten) content.funcs func target.typed.functions c).small.statepoints
+    small = (All-contains (IsTypedFunction Rewritten) content.funcs func target.functions c).small.statepoints
 
     few : length func.args ≤ 64
-    few = All-contains (λ (f : Function). length f.args ≤ 64) content.funcs func target.typed.limits.arguments c
+    few = All-contains (λ (f : Function). length f.args ≤ 64) content.funcs func target.limits.arguments c

@@ -1,8 +1,6 @@
 -- What a text that is accepted stands for.
 use Rattle.std.specs.Prelude.{◌≡◌, ◌≤◌, ℕ, List, length, Ok}
-use Rattle.std.specs.List.{All}
 use Rattle.ir_ast.specs.declared.modules.Form.{Form}
-use Rattle.ir_ast.specs.Bundles.{HasNoBundle}
 use Rattle.ir_cfg.specs.TypedModules.{IsModuleOf}
 use Rattle.ir_lines.specs.Modules.{module_of}
 use Rattle.ir_lines.specs.Statements.{lines_of}
@@ -13,4 +11,4 @@ use Rattle.ir_types.specs.FaultSet.{HasNoFault}
 abbrev pub AcceptedIsOf : Form → Type 0
 AcceptedIsOf form = (text : List ℕ) (readings : List Numbered) → length text ≤ 16777216 → readings_in form text ≡ Ok readings
     → HasNoFault form (lines_of readings)
-    → IsModuleOf form (module_of form (lines_of readings)).content × All HasNoBundle (module_of form (lines_of readings)).content.funcs
+    → IsModuleOf form (module_of form (lines_of readings)).content

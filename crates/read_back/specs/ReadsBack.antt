@@ -1,8 +1,6 @@
 -- Printing and reading back: the printed text of a source or a target module reads and types to that module again.
 use Rattle.std.specs.Prelude.{◌≡◌, ◌≤◌, length, List, Ok}
-use Rattle.std.specs.List.{All}
 use Rattle.ir_ast.specs.declared.modules.Form.{Form}
-use Rattle.ir_ast.specs.Bundles.{HasNoBundle}
 use Rattle.ir_ast.specs.Modules.{ModuleContent}
 use Rattle.ir_cfg.specs.TypedModules.{IsModuleOf}
 use Rattle.ir_printer.specs.Texts.{text_of}
@@ -18,7 +16,6 @@ pub record ReadsBack (content : ModuleContent) : Type 0 where
   pub no_fault : HasNoFault content.form (lines_of readings)
   pub same : (module_of content.form (lines_of readings)).content ≡ content
 
--- That each module of a form whose printed text is within the file limit reads back. No reading has a bundle yet.
+-- That each module of a form whose printed text is within the file limit reads back.
 abbrev pub EachReadsBack : Form → Type 0
-EachReadsBack form =
-    (content : ModuleContent) → IsModuleOf form content → All HasNoBundle content.funcs → length (text_of content) ≤ 16777216 → ReadsBack content
+EachReadsBack form = (content : ModuleContent) → IsModuleOf form content → length (text_of content) ≤ 16777216 → ReadsBack content

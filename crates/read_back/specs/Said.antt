@@ -140,10 +140,14 @@ load_says names inst = says.load (result_of inst) (word_of inst.ty) (value_at na
 abbrev pub store_says : Names → Instruction → Statement
 store_says names inst = says.store (word_of inst.ty) (value_at names inst.ty inst 0) (value_at names tys.Ptr inst 1)
 
+-- an entry of a "deopt" bundle, as a use of its value
+abbrev pub kept_says : Names → Ty × Operand → Val × TypeWord
+kept_says names entry = (value_says names entry.0 entry.1, word_of entry.0)
+
 abbrev pub call_says : Names → Callee → List Ty → Instruction → Statement
 call_says names callee tys inst =
     says.call inst.result (says.calling (word_of inst.ty) (callee_name names callee)
-    (map (λ argument. passed_says names argument.0 argument.1) (zip tys inst.operands)))
+    (map (λ argument. passed_says names argument.0 argument.1) (zip tys inst.operands)) (map (kept_says names) inst.bundle))
 
 -- a parameter of a callee; that of a function's name is a plain pointer
 abbrev pub parameter_says : Ty → TypeWord
@@ -160,7 +164,7 @@ abbrev pub token_says : Names → Operand → List ℕ
 token_says names (operands.Value value) = value_name names.func value.0
 token_says names _ = []
 
--- what a statepoint calls and passes
+-- what a statepoint calls, passes and keeps
 abbrev pub made_says : Names → ℕ → Callee → List Ty → Instruction → Guarded
 made_says names id callee takes inst = record {
   id = literal_of (signed 64 id);
@@ -168,6 +172,7 @@ made_says names id callee takes inst = record {
   callee = callee_name names callee;
   count = literal_of (pos (length takes));
   passed = map (λ argument. passed_says names argument.0 argument.1) (zip takes inst.operands);
+  kept = map (kept_says names) inst.bundle;
 }
 
 -- the operands behind the arguments are the live entries

@@ -2,12 +2,12 @@
 ghost use Rattle.ir_ast.specs.declared.modules.Form.{Form};
 ghost use Rattle.read_back.specs.AcceptedTexts.{AcceptedIsOf};
 
-/// The module of each text in the source form that has readings, and these no fault, is a source module without bundles.
+/// The module of each text in the source form that has readings, and these no fault, is a source module.
 pub fn accepted_is_source()
     ensures { AcceptedIsOf Form.Source }
 {}
 
-/// And that of a text in the rewritten form is a target module without bundles.
+/// And that of a text in the rewritten form is a target module.
 pub fn accepted_is_target()
     ensures { AcceptedIsOf Form.Rewritten }
 {}

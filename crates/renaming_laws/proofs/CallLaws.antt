@@ -5,6 +5,7 @@ use Rattle.std.specs.Int.{w64, cast_unsigned}
 use Rattle.std.specs.List.{All, sum_by}
 use Rattle.std.specs.Option.{option_map, option_map_or}
 use Rattle.std.proofs.lemmas.List.{length-map}
+use Rattle.std.proofs.lemmas.List.Elements.{All-drop}
 use Rattle.tool_io.specs.Counts.{raised}
 use Rattle.sp_ids.specs.Numbers.{signed}
 use Rattle.sp_ids.specs.declared.ends.End.TheVariants as ended
@@ -28,7 +29,7 @@ use Rattle.object_meaning.specs.Steps.{returned}
 use Rattle.object_meaning.specs.Tasks.{handed_over, polled, started, switched, switched_to, task_ended, with_event}
 use Rattle.renaming_laws.specs.Renamed.{CalleeTakes, InRoom, Renaming, Takes, renamed}
 use Rattle.renaming_laws.specs.Images.{HasImages, Images}
-use Rattle.renaming_laws.proofs.ListLaws.{all_dropped, before, behind, drop_behind, take_before}
+use Rattle.renaming_laws.proofs.ListLaws.{before, behind, drop_behind, take_before}
 use Rattle.renaming_laws.proofs.RegisterLaws.{Kept, entered_kept, function_same, operand_kept, put_kept, values_kept}
 use Rattle.renaming_laws.proofs.FrontLaws.{images_behind, members_class, members_kept, tested}
 use Rattle.renaming_laws.proofs.Related.{EffectKept, FrameGoes, FramesKept, Goes, Lasts, TaskKept, TasksKept, WaitKept, Waits, at_line, both_end, both_go, both_print, built, frame_goes, frames_length, goes, image, line_there, more_frames, no_frames, no_task, one_task, task_get, task_push, task_set, tasks_length, waits}
@@ -39,13 +40,13 @@ abbrev pub with_lines : Setting → (ℕ → ℕ → List Line) → List Line �
 with_lines one lines front registers names = record one { lines = lines; front = front; registers = registers; names = names }
 
 -- a frame behind the lines of a group
-abbrev behind_group : Frame → List Operand → List Line → Datum → Frame
+abbrev pub behind_group : Frame → List Operand → List Line → Datum → Frame
 behind_group frame entries rest answer = record frame {
   rest = behind (tested is_member) rest;
   registers = put_all (map (member_write frame.registers entries answer) (before (tested is_member) rest)) frame.registers;
 }
 
-regrouped_is : (frame : Frame) (entries : List Operand) (rest : List Line) (answer : Datum) → regrouped frame entries rest answer ≡ behind_group frame entries rest answer
+pub regrouped_is : (frame : Frame) (entries : List Operand) (rest : List Line) (answer : Datum) → regrouped frame entries rest answer ≡ behind_group frame entries rest answer
 regrouped_is frame entries rest answer =
     ap (λ lines. record frame { rest = lines; registers = put_all (map (member_write frame.registers entries answer) (take (group_length rest) rest)) frame.registers })
     (drop_behind (tested is_member) rest)
@@ -86,7 +87,7 @@ module _ (functions : ℕ → Renaming) (one : Setting) (lines : ℕ → ℕ →
   answered_goes frame line name rest others now answer kept (ops.Statepoint id callee types) =
       rw (drop_map (renamed (number_in_frame frame)) (length types) line.inst.operands)
       (regrouped_goes (at_line frame line rest) rest others (line_there functions frame name line ∷ others) now (drop (length types) line.inst.operands) answer kept.images kept.kept
-      (all_dropped (InRoom (functions frame.func).room) (length types) line.inst.operands kept.of.operands))
+      (All-drop (InRoom (functions frame.func).room) (length types) line.inst.operands kept.of.operands))
   answered_goes frame line name rest others now answer kept op =
       frame_goes (record frame { rest = rest; registers = put line.to answer frame.registers }) others (put (option_map (number_in_frame frame) line.to) answer now)
       (record { images = kept.images; kept = put_kept line.to answer (law.renaming frame.func) kept.of.result kept.kept })

@@ -2,6 +2,7 @@
 use Rattle.std.proofs.Common.{◌≡◌, ℕ, ◌+◌, List, [], ◌∷◌, ◌++◌, map, refl, sym, ap, subst, ◌∙◌, append-nil, arith}
 use Rattle.std.specs.Prelude.{ℤ, ◌↔◌, codes, decimal}
 use Rattle.std.specs.List.{All, flat_map}
+use Rattle.std.proofs.lemmas.List.Elements.{All-head, All-tail}
 use Rattle.sp_ids.specs.declared.ends.End.{End}
 use Rattle.sp_ids.specs.declared.ends.End.TheVariants as ended
 use Rattle.ir_ast.specs.declared.types.Ty.{Ty}
@@ -21,7 +22,6 @@ use Rattle.renaming_laws.specs.Renamed.{InRoom, IsLineOf, Renaming, renamed}
 use Rattle.renaming_laws.specs.Inserted.{alone}
 use Rattle.renaming_laws.specs.Images.{HasImages, Images, more_lines, no_lines, renumbered, renumbered_setting}
 use Rattle.renaming_laws.specs.Statements.{ImagesGiveTheSame, RenumberingGivesTheSame}
-use Rattle.renaming_laws.proofs.ListLaws.{all_first, all_rest}
 use Rattle.renaming_laws.proofs.RegisterLaws.{Kept, value_kept}
 use Rattle.renaming_laws.proofs.Related.{EffectKept, FramesKept, Goes, at_line, both_end, both_go, both_print, goes, image, line_there, more_frames, more_tasks, no_frames, no_tasks}
 use Rattle.renaming_laws.proofs.CallLaws.{entered_goes, with_lines}
@@ -34,8 +34,8 @@ shown_kept : {function : Renaming} {registers now : List Datum} (bundle : List (
     ≡ flat_map (λ (each : Ty × Operand). codes " " ++ shown each.0 (value registers each.1)) bundle
 shown_kept [] inside kept = refl
 shown_kept {function} {registers} {now} (entry ∷ bundle) inside kept =
-    rw (value_kept entry.1 (all_first (λ (each : Ty × Operand). InRoom function.room each.1) entry bundle inside) kept)
-    (ap (λ rest. (codes " " ++ shown entry.0 (value registers entry.1)) ++ rest) (shown_kept bundle (all_rest (λ (each : Ty × Operand). InRoom function.room each.1) entry bundle inside) kept))
+    rw (value_kept entry.1 (All-head (λ (each : Ty × Operand). InRoom function.room each.1) entry bundle inside) kept)
+    (ap (λ rest. (codes " " ++ shown entry.0 (value registers entry.1)) ++ rest) (shown_kept bundle (All-tail (λ (each : Ty × Operand). InRoom function.room each.1) entry bundle inside) kept))
 
 abbrev line_of : ℕ → List ℕ → List ℕ → List (List ℕ)
 line_of place name text = (codes "! " ++ decimal place ++ codes " @" ++ name ++ text ++ newline) ∷ []
@@ -234,16 +234,16 @@ images_give_the_same functions one other law input outcome =
 images_of : (functions : ℕ → Renaming) (func : ℕ) (lines : List Line) → All (IsLineOf functions func) lines → Images functions func lines (map (renumbered (functions func).number) lines)
 images_of functions func [] all = no_lines
 images_of functions func (line ∷ lines) all =
-    more_lines line (renumbered (functions func).number line ∷ []) lines (map (renumbered (functions func).number) lines) (all_first (IsLineOf functions func) line lines all) (alone line.inst.result)
-    (images_of functions func lines (all_rest (IsLineOf functions func) line lines all))
+    more_lines line (renumbered (functions func).number line ∷ []) lines (map (renumbered (functions func).number) lines) (All-head (IsLineOf functions func) line lines all) (alone line.inst.result)
+    (images_of functions func lines (All-tail (IsLineOf functions func) line lines all))
 
 images_after : (functions : ℕ → Renaming) (func : ℕ) (front lines images : List Line) → All (IsLineOf functions func) front → Images functions func lines images
     → Images functions func (front ++ lines) (map (renumbered (functions func).number) front ++ images)
 images_after functions func [] lines images all further = further
 images_after functions func (line ∷ front) lines images all further =
     more_lines line (renumbered (functions func).number line ∷ []) (front ++ lines) (map (renumbered (functions func).number) front ++ images)
-    (all_first (IsLineOf functions func) line front all) (alone line.inst.result)
-    (images_after functions func front lines images (all_rest (IsLineOf functions func) line front all) further)
+    (All-head (IsLineOf functions func) line front all) (alone line.inst.result)
+    (images_after functions func front lines images (All-tail (IsLineOf functions func) line front all) further)
 
 pub renumbering_gives_the_same : RenumberingGivesTheSame
 renumbering_gives_the_same functions setting can input outcome =

@@ -1,28 +1,6 @@
--- Lists of which each element has a property, and the front of a list whose elements pass a test.
-use Rattle.std.proofs.Common.{◌≡◌, ℕ, zero, suc, ◌+◌, Bool, true, false, if◌then◌else◌, List, [], ◌∷◌, take, drop, refl, ap, ◌∙◌, arith}
-use Rattle.std.specs.List.{All, prefix_len}
-use Rattle.std.proofs.lemmas.List.Elements.{All-cons}
-
-pub all_first : {A : Type 0} (P : A → Type 0) (x : A) (xs : List A) → All P (x ∷ xs) → P x
-all_first P x xs all = all 0 x (omega arith)
-
-pub all_rest : {A : Type 0} (P : A → Type 0) (x : A) (xs : List A) → All P (x ∷ xs) → All P xs
-all_rest P x xs all = λ k d below. all (suc k) d (omega arith)
-
-pub all_dropped : {A : Type 0} (P : A → Type 0) (count : ℕ) (xs : List A) → All P xs → All P (drop count xs)
-all_dropped P zero xs all = all
-all_dropped P (suc count) [] all = all
-all_dropped P (suc count) (x ∷ xs) all = all_dropped P count xs (all_rest P x xs all)
-
-pub all_taken : {A : Type 0} (P : A → Type 0) (count : ℕ) (xs : List A) → All P xs → All P (take count xs)
-all_taken P zero xs all = λ k d below. absurd (omega arith)
-all_taken P (suc count) [] all = all
-all_taken P (suc count) (x ∷ xs) all = by (all_first P x xs all) (all_taken P count xs (all_rest P x xs all))
-  where
-    by : P x → All P (take count xs) → All P (x ∷ take count xs)
-    by first rest = All-cons P x (take count xs) first rest
-
--- ---- the front
+-- The front of a list whose elements pass a test.
+use Rattle.std.proofs.Common.{◌≡◌, ℕ, suc, ◌+◌, Bool, true, false, if◌then◌else◌, List, [], ◌∷◌, take, drop, refl, ap, ◌∙◌, arith}
+use Rattle.std.specs.List.{prefix_len}
 
 abbrev pub before : {A : Type 0} → (A → Bool) → List A → List A
 before test [] = []

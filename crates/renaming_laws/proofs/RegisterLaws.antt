@@ -6,6 +6,7 @@ use Rattle.std.specs.Option.{option_map, IfSome}
 use Rattle.std.proofs.lemmas.List.{get_or-set_same, get_or-set_other, length-set, get_or_append_left, length-append, length-replicate}
 use Rattle.std.proofs.lemmas.Bool.{cases_eq, cases_lt}
 use Rattle.std.proofs.Math.Seq.{get_or-append_right}
+use Rattle.std.proofs.lemmas.List.Elements.{All-head, All-tail}
 use Rattle.ir_ast.specs.declared.ops.Operand.{Operand}
 use Rattle.ir_ast.specs.declared.ops.Operand.TheVariants.{Value, Int, Null, Fun}
 use Rattle.ir_ast.specs.Objects.{Datum}
@@ -14,7 +15,6 @@ use Rattle.object_meaning.specs.Calls.{function_in}
 use Rattle.object_meaning.specs.Registers.{nothing, operand, put, value}
 use Rattle.renaming_laws.specs.Renamed.{InRoom, IsRenaming, Renaming, renamed}
 use Rattle.renaming_laws.specs.Inserted.{IsFresh}
-use Rattle.renaming_laws.proofs.ListLaws.{all_first, all_rest}
 
 abbrev pub read : List Datum → ℕ → Datum
 read registers register = slice_index_or registers register nothing
@@ -76,15 +76,15 @@ value_kept (Fun func) inside kept = refl
 pub operand_kept : {function : Renaming} {registers now : List Datum} (operands : List Operand) (place : ℕ) → All (InRoom function.room) operands
     → Kept function registers now → operand now (map (renamed function.number) operands) place ≡ operand registers operands place
 operand_kept [] place inside kept = refl
-operand_kept {function} (each ∷ operands) zero inside kept = value_kept each (all_first (InRoom function.room) each operands inside) kept
-operand_kept {function} (each ∷ operands) (suc place) inside kept = operand_kept operands place (all_rest (InRoom function.room) each operands inside) kept
+operand_kept {function} (each ∷ operands) zero inside kept = value_kept each (All-head (InRoom function.room) each operands inside) kept
+operand_kept {function} (each ∷ operands) (suc place) inside kept = operand_kept operands place (All-tail (InRoom function.room) each operands inside) kept
 
 pub values_kept : {function : Renaming} {registers now : List Datum} (operands : List Operand) → All (InRoom function.room) operands
     → Kept function registers now → map (value now) (map (renamed function.number) operands) ≡ map (value registers) operands
 values_kept [] inside kept = refl
 values_kept {function} {registers} {now} (each ∷ operands) inside kept =
-    ap (λ first. first ∷ map (value now) (map (renamed function.number) operands)) (value_kept each (all_first (InRoom function.room) each operands inside) kept)
-    ∙ ap (λ rest. value registers each ∷ rest) (values_kept operands (all_rest (InRoom function.room) each operands inside) kept)
+    ap (λ first. first ∷ map (value now) (map (renamed function.number) operands)) (value_kept each (All-head (InRoom function.room) each operands inside) kept)
+    ∙ ap (λ rest. value registers each ∷ rest) (values_kept operands (All-tail (InRoom function.room) each operands inside) kept)
 
 -- ---- what has no register stays
 
@@ -105,16 +105,16 @@ index_same number (each ∷ operands) (suc place) = index_same number operands p
 
 -- ---- a new frame
 
-blank_read : (count register : ℕ) → read (replicate count nothing) register ≡ nothing
+pub blank_read : (count register : ℕ) → read (replicate count nothing) register ≡ nothing
 blank_read zero register = refl
 blank_read (suc count) zero = refl
 blank_read (suc count) (suc register) = blank_read count register
 
-behind_read : (arguments : List Datum) (count register : ℕ) → length arguments ≤ register → read (arguments ++ replicate count nothing) register ≡ nothing
+pub behind_read : (arguments : List Datum) (count register : ℕ) → length arguments ≤ register → read (arguments ++ replicate count nothing) register ≡ nothing
 behind_read arguments count register past =
     get_or-append_right arguments (replicate count nothing) register nothing past ∙ blank_read count (register - length arguments)
 
-filled_length : (arguments : List Datum) (count : ℕ) → length arguments ≤ count → length (arguments ++ replicate (count - length arguments) nothing) ≡ count
+pub filled_length : (arguments : List Datum) (count : ℕ) → length arguments ≤ count → length (arguments ++ replicate (count - length arguments) nothing) ≡ count
 filled_length arguments count few =
     let whole = length-append arguments (replicate (count - length arguments) nothing) in
     let back = length-replicate (count - length arguments) nothing in

@@ -5,6 +5,7 @@ use Rattle.std.specs.List.{All, prefix_len}
 use Rattle.std.specs.Option.{option_map, option_map_or}
 use Rattle.std.proofs.lemmas.Bool.Decides.{nat_tests}
 use Rattle.std.proofs.lemmas.List.{get_or-set_same, length-map}
+use Rattle.std.proofs.lemmas.List.Elements.{All-head, All-tail, All-drop, All-take}
 use Rattle.sp_ids.specs.declared.ends.End.TheVariants as ended
 use Rattle.sp_ids.specs.declared.ends.Trap.{Trap}
 use Rattle.sp_ids.specs.declared.ends.Trap.TheVariants as traps
@@ -34,10 +35,11 @@ use Rattle.object_meaning.specs.Registers.{is_set, nothing, number_in, operand, 
 use Rattle.object_meaning.specs.States.{Frame, State, Setting}
 use Rattle.object_meaning.specs.Steps.{accesses, acts, loading, returned, settled, steps_at, storing}
 use Rattle.object_meaning.specs.Traces.{access_of, accesses_at, event_of, events_at, reading, writing}
+use Rattle.object_meaning.proofs.AccessLaws.{cell_again}
 use Rattle.renaming_laws.specs.Renamed.{ArgumentsFit, InRoom, Leads, Renaming, renamed}
 use Rattle.renaming_laws.specs.Inserted.{Image, IsFresh, alone, as_negated, as_same, behind_check, behind_merge, check_line, negated_line, pointer_place, same_line}
 use Rattle.renaming_laws.specs.Images.{HasImages, Images, more_lines, no_lines}
-use Rattle.renaming_laws.proofs.ListLaws.{all_dropped, all_first, all_rest, all_taken, before, behind, drop_behind, take_before}
+use Rattle.renaming_laws.proofs.ListLaws.{before, behind, drop_behind, take_before}
 use Rattle.renaming_laws.proofs.RegisterLaws.{Kept, operand_kept, put_fresh, put_kept, read, value_kept}
 use Rattle.renaming_laws.proofs.FrontLaws.{images_behind, phis_class, phis_kept, tested}
 use Rattle.renaming_laws.proofs.Related.{EffectKept, FrameGoes, FramesKept, Goes, Lasts, TasksKept, WaitKept, at_line, both_end, both_go, built, frame_goes, goes, image, line_there}
@@ -88,10 +90,6 @@ cases_same : (rename : ℕ → ℕ) (datum : Datum) (cases : List Operand) → c
 cases_same rename datum cases = rw (cases_before rename (number_in datum) cases, length-map cases (renamed rename)) refl
 
 -- ---- what checks and compares of pointers do
-
-pub cell_again : (cell : Cell) → cell_named (kind_of cell) ≡ cell
-cell_again cells.I64 = refl
-cell_again cells.Ptr = refl
 
 negated : (same : Bool) → bit_xor (bit same) 1 ≡ bit (not same)
 negated true = refl
@@ -221,7 +219,7 @@ module _ (functions : ℕ → Renaming) (one : Setting) (lines : ℕ → ℕ →
         goes (record state { running = regrouped (at_line state.running line rest) (drop count line.inst.operands) rest answer })
         (regrouped frame_now (map (renamed func.number) (drop count line.inst.operands)) others answer) below tasks
         (regrouped_goes functions one lines front registers names law (at_line state.running line rest) rest others (line_now ∷ others) now (drop count line.inst.operands) answer
-        kept.images kept.kept (all_dropped (InRoom func.room) count line.inst.operands kept.of.operands)) frames all
+        kept.images kept.kept (All-drop (InRoom func.room) count line.inst.operands kept.of.operands)) frames all
 
     alone_kept : (op : Op) → line.inst.op ≡ op → EffectKept functions (acts one here line rest op) (acts there_setting there line_now others op)
     alone_kept ops.Load is = rw (accesses_same 0) (loading_kept (accesses one here line 0))
@@ -233,7 +231,7 @@ module _ (functions : ℕ → Renaming) (one : Setting) (lines : ℕ → ℕ →
         rw (drop_map (renamed func.number) (length types) line.inst.operands, take_map (length types) line.inst.operands)
         (called_kept functions one lines front registers names law state line name rest others now below tasks kept frames all
         (grouped here (drop (length types) line.inst.operands) rest) (grouped there (map (renamed func.number) (drop (length types) line.inst.operands)) others) (grouped_goes (length types))
-        (take (length types) line.inst.operands) (all_taken (InRoom func.room) (length types) line.inst.operands kept.of.operands) callee (fits_as (ops.Statepoint id callee types) is))
+        (take (length types) line.inst.operands) (All-take (InRoom func.room) (length types) line.inst.operands kept.of.operands) callee (fits_as (ops.Statepoint id callee types) is))
     alone_kept ops.Phi is = both_go _ _ skipped_goes
     alone_kept ops.GcResult is = both_go _ _ skipped_goes
     alone_kept ops.GcRelocate is = both_go _ _ skipped_goes
@@ -343,9 +341,9 @@ module _ (functions : ℕ → Renaming) (one : Setting) (lines : ℕ → ℕ →
       same_there : same_pointer (pointer_in (value now (renamed func.number first))) (pointer_in (value now (renamed func.number second))) ≡ same_here
       same_there =
           ap (λ (datum : Datum). same_pointer (pointer_in datum) (pointer_in (value now (renamed func.number second))))
-          (value_kept first (all_first (InRoom func.room) first (second ∷ []) inside) kept.kept)
+          (value_kept first (All-head (InRoom func.room) first (second ∷ []) inside) kept.kept)
           ∙ ap (λ (datum : Datum). same_pointer (pointer_in (value state.running.registers first)) (pointer_in datum))
-          (value_kept second (all_first (InRoom func.room) second [] (all_rest (InRoom func.room) first (second ∷ []) inside)) kept.kept)
+          (value_kept second (All-head (InRoom func.room) second [] (All-tail (InRoom func.room) first (second ∷ []) inside)) kept.kept)
 
       abbrev same : Option ℕ → Option (List ℕ) → Line
       same to result = same_line to result passed_types base (renamed func.number first) other_base (renamed func.number second)

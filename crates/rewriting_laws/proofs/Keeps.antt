@@ -42,13 +42,14 @@ use Rattle.object_meaning.specs.Calls.{stepped, called, function_in}
 use Rattle.object_meaning.specs.Steps.{settled, loading, storing, returned, accesses, acts, steps_at, step}
 use Rattle.object_meaning.proofs.RunLaws.{gone, not_over, same_over}
 use Rattle.object_meaning.proofs.SimulationLaws.{happens, accessing, FollowsIn}
+use Rattle.object_meaning.proofs.RegisterLaws.{puts_length}
 use Rattle.rewriting_forms.specs.Numbered.{named, lines_at, is_given, is_call}
 use Rattle.rewriting_forms.specs.Names.{Name, own, Names, names_at, names_at_end}
 use Rattle.rewriting_forms.specs.Rewritten.{Piece, renamed, plain as plain_piece, expanded, expanded_by}
 use Rattle.rewriting_laws.specs.Laws.{Edge, LeadsByEdges}
 use Rattle.rewriting_laws.specs.Related.{Rewriting, IsRewriting, piece_line, Kept, FrameKept, FramesKept, no_frames, more_frames, no_tasks, more_tasks, StateKept, EffectKept, both_go, both_print, both_end, setting_of, setting_now, AreModules, frame_now, lines_now, rest_now}
 use Rattle.rewriting_laws.proofs.NameLemmas.{at_rest, names_kept, is_one, is_none, call_or_not}
-use Rattle.rewriting_laws.proofs.ReadLemmas.{read, length_put_all}
+use Rattle.rewriting_laws.proofs.ReadLemmas.{read}
 use Rattle.rewriting_laws.proofs.KeptLemmas.{value_kept, values_kept, operand_kept}
 use Rattle.rewriting_laws.proofs.JumpLemmas.{one_piece, jump_each, phi_lines, lines_split, phis_count}
 use Rattle.rewriting_laws.proofs.StateLemmas.{TaskKept, no_task, one_task, task_get, task_set, kept_objects, kept_frames}
@@ -281,8 +282,8 @@ module _ (all : ℕ → Rewriting) (content now_content : ModuleContent) (module
           kept = record {
             each = jump_each r.text r.func r.table r.naming r.live law.fits r.number r.room r.now_room law.numbers law.plain law.closed b to edge state.running.registers registers
                 (end_kept ends_block plain) kept.room_before kept.room_now;
-            room_before = length_put_all (map (phi_write b state.running.registers) (take front (lines_at r.func to))) state.running.registers ∙ kept.room_before;
-            room_now = length_put_all (map (phi_write b registers) phis) registers ∙ kept.room_now;
+            room_before = puts_length (map (phi_write b state.running.registers) (take front (lines_at r.func to))) state.running.registers ∙ kept.room_before;
+            room_now = puts_length (map (phi_write b registers) phis) registers ∙ kept.room_now;
           };
         }
 

@@ -18,9 +18,10 @@ use Rattle.rewriting_forms.specs.Names.{Name, own, relocated, Names, Naming, nam
 use Rattle.rewriting_forms.specs.Rewritten.{Piece, renamed, is_null, entries, same_operand, index_of, result_of, relocate_of, group}
 use Rattle.rewriting_laws.specs.Related.{piece_line}
 use Rattle.rewriting_laws.specs.Laws.{IsPlain, IsClosed, IsNumbering, Fits}
-use Rattle.rewriting_laws.proofs.ReadLemmas.{read, length_put, read_put_same, read_put_other, length_put_all, written, read_put_all, read_put_all_kept, written_append}
+use Rattle.rewriting_laws.proofs.ReadLemmas.{read, read_put_same, read_put_other, written, read_put_all, read_put_all_kept, written_append}
 use Rattle.rewriting_laws.proofs.NameLemmas.{among_cons, among_here, among_there, among_filter, line_is, names_given, names_kept, names_unlisted, names_listed, names_owner, number_apart, found}
 use Rattle.object_meaning.proofs.LineLaws.{given_is}
+use Rattle.object_meaning.proofs.RegisterLaws.{put_length, puts_length}
 
 -- operands under names
 module _ (number : Name → ℕ) (names : Names) (live : ℕ → Bool) (registers now : List Datum)
@@ -76,8 +77,8 @@ module _ (text : Name → List ℕ) (func : Function) (table : List Operand) (na
           ∙ kept.each v (closed.later b k v line stands none alive)
           ∙ sym (read_put_other line.to word registers v none)
     ];
-    room_before = length_put line.to word registers ∙ kept.room_before;
-    room_now = length_put (option_map number (option_map own line.to)) word now ∙ kept.room_now;
+    room_before = put_length line.to word registers ∙ kept.room_before;
+    room_now = put_length (option_map number (option_map own line.to)) word now ∙ kept.room_now;
   }
     where
       given_value : (v : ℕ) → gives line v ≡ true
@@ -270,6 +271,6 @@ module _ (text : Name → List ℕ) (func : Function) (table : List Operand) (na
               ∙ group_other v none other (closed.later b k v line stands none alive)
         ]
       ];
-      room_before = length_put line.to answer registers ∙ kept.room_before;
-      room_now = length_put_all group_writes now ∙ kept.room_now;
+      room_before = put_length line.to answer registers ∙ kept.room_before;
+      room_now = puts_length group_writes now ∙ kept.room_now;
     }

@@ -1,18 +1,15 @@
 -- What registers hold after writes that take effect together.
 use Rattle.std.proofs.Common.{◌≡◌, ℕ, ◌<◌, true, false, if◌then◌else◌, List, [], ◌∷◌, ◌++◌, length, refl, ap, sym, arith, inl, inr, ◌∙◌}
 use Rattle.std.specs.Prelude.{Option, Some, None, slice_index_or}
-use Rattle.std.proofs.lemmas.List.{get_or-set_same, get_or-set_other, length-set, get_or_past}
+use Rattle.std.proofs.lemmas.List.{get_or-set_same, get_or-set_other, get_or_past}
 use Rattle.std.proofs.lemmas.Bool.{cases_Bool, cases_eq, cases_lt, eqb-true, eq-eqb, true≢false, false≢true}
 use Rattle.ir_ast.specs.Objects.{Datum}
 use Rattle.object_meaning.specs.Registers.{nothing, Write, put, put_all}
+use Rattle.object_meaning.proofs.RegisterLaws.{put_length, puts_length}
 use Rattle.rewriting_forms.specs.Numbered.{is_given}
 
 abbrev pub read : List Datum → ℕ → Datum
 read registers v = slice_index_or registers v nothing
-
-pub length_put : (to : Option ℕ) (word : Datum) (registers : List Datum) → length (put to word registers) ≡ length registers
-length_put None word registers = refl
-length_put (Some x) word registers = length-set registers x word
 
 pub read_put_same : (v : ℕ) (word : Datum) (registers : List Datum) → v < length registers → read (put (Some v) word registers) v ≡ word
 read_put_same v word registers within = get_or-set_same registers v word nothing within
@@ -23,10 +20,6 @@ read_put_other (Some x) word registers v other = elim (cases_eq x v) [
   | inl e ↦ absurd (true≢false (sym (eq-eqb x v e) ∙ other))
   | inr ne ↦ get_or-set_other registers x v word nothing (λ same. ne (sym same))
 ]
-
-pub length_put_all : (writes : List Write) (registers : List Datum) → length (put_all writes registers) ≡ length registers
-length_put_all [] registers = refl
-length_put_all (write ∷ writes) registers = length_put_all writes (put write.to write.value registers) ∙ length_put write.to write.value registers
 
 -- the last of these writes to a register, or else what stands there
 abbrev pub written : List Write → ℕ → Datum → Datum
@@ -50,7 +43,7 @@ pub read_put_all : (writes : List Write) (registers : List Datum) (v : ℕ) → 
     → read (put_all writes registers) v ≡ written writes v (read registers v)
 read_put_all [] registers v within = refl
 read_put_all (write ∷ writes) registers v within =
-    let longer = length_put write.to write.value registers in
+    let longer = put_length write.to write.value registers in
     read_put_all writes (put write.to write.value registers) v (omega (arith, longer))
     ∙ ap (written writes v) (read_put_at write.to write.value registers v within)
 
@@ -60,7 +53,7 @@ pub read_put_all_kept : (writes : List Write) (registers : List Datum) (v : ℕ)
 read_put_all_kept writes registers v kept = elim (cases_lt v (length registers)) [
   | inl within ↦ read_put_all writes registers v within ∙ kept
   | inr past ↦
-      let same = length_put_all writes registers in
+      let same = puts_length writes registers in
       get_or_past (put_all writes registers) v nothing (omega (arith, same)) ∙ sym (get_or_past registers v nothing past)
 ]
 

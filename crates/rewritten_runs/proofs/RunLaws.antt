@@ -5,13 +5,12 @@ use Rattle.std.specs.List.{concat}
 use Rattle.ir_ast.specs.Modules.{ModuleContent}
 use Rattle.ir_cfg.specs.SourceModules.{IsSourceModule}
 use Rattle.move_plan.specs.Plans.{go}
-use Rattle.object_meaning.specs.Effects.{text_of}
+use Rattle.object_meaning.specs.Effects.{text_of, PrintsMore}
 use Rattle.stackmap_write.specs.ModuleMaps.{map_of}
 use Rattle.machine_meaning.specs.Code.{machinery_of}
 use Rattle.machine_meaning.specs.MachineRuns.{MachineOutcome}
 use Rattle.machine_meaning.specs.Machines.{Machinery}
 use Rattle.machine_meaning.specs.TrapLines.{closing_of}
-use Rattle.runs_unseen.specs.MachineEnds.{PrintsMore}
 use Rattle.runs_unseen.proofs.machine_ends.EndLaws.{each_run_ends}
 use Rattle.runs_unseen.proofs.machine_ends.PrintLaws.{printed_first}
 use Rattle.sp_rewrite.specs.Statements.{IsRewritten}

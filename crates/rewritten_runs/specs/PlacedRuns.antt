@@ -13,8 +13,8 @@ use Rattle.rewritten_runs.specs.Places.{stands_by, verdicts_by}
 abbrev pub events_of : MachineOutcome → List Event
 events_of machine = map (λ (happening : Happening). happening.event) machine.happened
 
-abbrev pub sizes_in : MachineOutcome → List ℕ
-sizes_in machine = map (λ (stand : Stand). stand.size) machine.heap.stands
+abbrev pub stand_sizes : MachineOutcome → List ℕ
+stand_sizes machine = map (λ (stand : Stand). stand.size) machine.heap.stands
 
 -- objects stand, and each event has the verdict, as these events and sizes say under this plan
 pub record IsPlacedBy (plan : List PlanLine) (events : List Event) (sizes : List ℕ) (machine : MachineOutcome) : Type 0 where
@@ -24,4 +24,4 @@ pub record IsPlacedBy (plan : List PlanLine) (events : List Event) (sizes : List
 -- whatever the module and the stack map are, where no frame is lost
 abbrev pub PlacesAreByEvents : Type 0
 PlacesAreByEvents = (content : ModuleContent) (map : StackMap) (input : List ℤ) (plan : List PlanLine) (bound : ℕ) (machine : MachineOutcome)
-    → MachineGives content map input plan bound machine → (machine.end ≡ LostFrame → ⊥) → IsPlacedBy plan (events_of machine) (sizes_in machine) machine
+    → MachineGives content map input plan bound machine → (machine.end ≡ LostFrame → ⊥) → IsPlacedBy plan (events_of machine) (stand_sizes machine) machine

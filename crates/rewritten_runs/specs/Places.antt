@@ -1,8 +1,6 @@
 -- Where objects stand in the end of a run, and the verdict of each event, by its events, its objects and the plan alone.
-use Rattle.std.specs.Prelude.{ℕ, List, [], ◌∷◌, map}
+use Rattle.std.specs.Prelude.{ℕ, List, [], ◌∷◌}
 use Rattle.tool_io.specs.Counts.{raised}
-use Rattle.ir_ast.specs.Layouts.{ObjectLayout}
-use Rattle.ir_ast.specs.Objects.{Object, footprint}
 use Rattle.move_plan.specs.declared.plan_lines.PlanLine.{PlanLine}
 use Rattle.move_plan.specs.Plans.{group, flips}
 use Rattle.moving_heap.specs.declared.stands.Stand.{Stand}
@@ -42,7 +40,3 @@ stands_by plan events sizes = stands_behind (moves_in plan) 0 [] (occasions even
 
 abbrev pub verdicts_by : List PlanLine → List Event → List ℕ → List Verdict
 verdicts_by plan events sizes = verdicts_behind (moves_in plan) 0 [] (occasions events sizes)
-
--- the footprints of objects, by number
-abbrev pub sizes_of : List ObjectLayout → List Object → List ℕ
-sizes_of layouts objects = map (footprint layouts) objects

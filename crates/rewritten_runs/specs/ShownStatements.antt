@@ -5,10 +5,9 @@ use Rattle.ir_ast.specs.Modules.{ModuleContent}
 use Rattle.ir_ast.specs.Objects.{Object}
 use Rattle.move_plan.specs.declared.plan_lines.PlanLine.{PlanLine}
 use Rattle.moving_heap.specs.Contents.{Content}
-use Rattle.object_meaning.specs.Outcomes.{Outcome}
+use Rattle.object_meaning.specs.Outcomes.{Outcome, sizes_in}
 use Rattle.machine_meaning.specs.MachineRuns.{MachineOutcome}
-use Rattle.rewritten_runs.specs.Places.{sizes_of}
-use Rattle.rewritten_runs.specs.PlacedRuns.{events_of, sizes_in}
+use Rattle.rewritten_runs.specs.PlacedRuns.{events_of, stand_sizes}
 use Rattle.stackmap_write.specs.ModuleMaps.{map_of}
 use Rattle.moves_unseen.specs.Statements.{IsSeen}
 use Rattle.moves_unseen.specs.Waits.{IsSound}
@@ -24,7 +23,7 @@ pub record IsAlike (content : ModuleContent) (meant : Outcome) (machine : Machin
   pub steps : machine.steps ≡ meant.steps
   pub events : machine.events ≡ meant.events
   pub happened : events_of machine ≡ meant.happened
-  pub sizes : sizes_in machine ≡ sizes_of content.layouts meant.objects
+  pub sizes : stand_sizes machine ≡ sizes_in content.layouts meant.objects
   pub count : length machine.heap.contents ≡ length meant.objects
   pub each : (place : ℕ) (object : Object) (held : Content) → slice_get meant.objects place ≡ Some object → slice_get machine.heap.contents place ≡ Some held
       → (held.layout ≡ object.layout) × (held.count ≡ object.count)

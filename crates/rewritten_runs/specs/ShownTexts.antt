@@ -6,12 +6,12 @@ use Rattle.ir_ast.specs.Modules.{ModuleContent}
 use Rattle.ir_ast.specs.Objects.{Object}
 use Rattle.move_plan.specs.declared.plan_lines.PlanLine.{PlanLine}
 use Rattle.moving_heap.specs.declared.stands.Stand.{Stand}
-use Rattle.object_meaning.specs.Outcomes.{Outcome}
+use Rattle.object_meaning.specs.Outcomes.{Outcome, sizes_in}
 use Rattle.object_meaning.specs.Texts.{function_name}
 use Rattle.tool_report.specs.Closings.{closing_line}
 use Rattle.tool_report.specs.RunLines.{place_line}
 use Rattle.run_texts.specs.RunTexts.{layout_name}
-use Rattle.rewritten_runs.specs.Places.{sizes_of, stands_by}
+use Rattle.rewritten_runs.specs.Places.{stands_by}
 
 -- a line of a trace begins with `#`; the others are the program's
 abbrev pub is_traced : List ℕ → Bool
@@ -30,7 +30,7 @@ object_lines layouts _ _ = []
 -- where the objects of a run stand that gives this: its events, its objects and the plan say so, and the run's addresses don't come in
 abbrev pub places_meant : ModuleContent → List PlanLine → Outcome → List (List ℕ)
 places_meant content plan meant =
-    object_lines content.layouts meant.objects (stands_by plan meant.happened (sizes_of content.layouts meant.objects))
+    object_lines content.layouts meant.objects (stands_by plan meant.happened (sizes_in content.layouts meant.objects))
 
 abbrev pub places_shown : Bool → ModuleContent → List PlanLine → Outcome → List (List ℕ)
 places_shown true content plan meant = places_meant content plan meant

@@ -2,6 +2,7 @@ pub mod LineLaws
 pub mod EdgeLaws
 pub mod BeforeLaws
 pub mod PieceLaws
+pub mod ListedLaws
 pub mod NowLaws
 pub mod CleanLaws
 pub mod UsedLaws

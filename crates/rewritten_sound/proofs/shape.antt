@@ -11,5 +11,6 @@ pub mod ModuleLaws
 pub mod BasedTypes
 pub mod BasedLines
 pub mod BasedModule
+pub mod BasedTarget
 pub mod TargetLaws
 pub mod Samples

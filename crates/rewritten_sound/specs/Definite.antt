@@ -9,6 +9,7 @@ use Rattle.ir_ast.specs.Funcs.{Function}
 use Rattle.ir_ast.specs.Modules.{ModuleContent}
 use Rattle.ir_cfg.specs.DefiniteUses.{UsesAreDefinite}
 use Rattle.ir_cfg.specs.SourceModules.{IsSourceModule}
+use Rattle.ir_cfg.specs.Paths.{IsReached}
 use Rattle.object_meaning.specs.Outcomes.{Outcome}
 use Rattle.object_meaning.specs.SourceRuns.{SourceGives}
 use Rattle.object_meaning.specs.TargetRuns.{TargetGives}
@@ -20,7 +21,6 @@ use Rattle.rewriting_forms.specs.Rewritten.{Choice, names_of, place_in, rewritte
 use Rattle.rewriting_laws.specs.Laws.{Fits, IsNumbering}
 use Rattle.rewriting_laws.specs.Statements.{HaveFittingNames, IsBefore, IsExact, func_of}
 use Rattle.base_definite.specs.Paths.{HasDefiniteBases}
-use Rattle.base_definite.specs.Relations.{IsReached}
 use Rattle.rewritten_sound.specs.LeadsOut.{PhisAreBare}
 
 -- the bases of each function of the module with bases

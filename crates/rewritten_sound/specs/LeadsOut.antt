@@ -8,8 +8,8 @@ use Rattle.ir_ast.specs.Funcs.{Function, instructions_of}
 use Rattle.ir_ast.specs.Modules.{ModuleContent}
 use Rattle.ir_ast.specs.Faults.PhiEdges.{is_phi}
 use Rattle.ir_cfg.specs.DefiniteUses.{Stands}
+use Rattle.ir_cfg.specs.Paths.{IsReached}
 use Rattle.base_laws.specs.BeforeLiveness.{IsBeforeLiveness}
-use Rattle.base_definite.specs.Relations.{IsReached}
 
 abbrev pub HasLabels : Op → Instruction → Type 0
 HasLabels Br inst = length inst.labels ≡ 1

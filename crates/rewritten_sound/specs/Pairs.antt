@@ -19,11 +19,11 @@ use Rattle.rewriting_laws.specs.Laws.{Fits, IsNumbering, IsPlain}
 use Rattle.base_forms.specs.Polls.{placed}
 use Rattle.base_forms.specs.Based.{base_table, based}
 use Rattle.base_definite.specs.Paths.{HasDefiniteBases}
-use Rattle.base_definite.specs.Relations.{IsReached}
 use Rattle.rewritten_sound.specs.LeadsOut.{PhisAreBare}
 use Rattle.rewritten_sound.specs.Definite.{ChoiceFits, IsReachedSource, rewritten_source, rewritten_source_by}
 use Rattle.pair_facts.specs.Faults.{FaultAt, IsVerified}
 use Rattle.rewritten_sound.specs.Takes.{HasPairs, Takes}
+use Rattle.ir_cfg.specs.Paths.{IsReached}
 
 -- a function before its groups that takes pointers with their bases, and a choice of inserted phis by which names fit at every edge
 pub record HasFittingPairs (func : Function) (table : List Operand) (naming : Naming) (room : ℕ) : Type 0 where

@@ -14,6 +14,7 @@ use Rattle.rewriting_forms.specs.Rewritten.{rewritten_module}
 use Rattle.rewriting_laws.specs.Statements.{IsBefore}
 use Rattle.rewritten_sound.specs.Definite.{IsReachedSource, rewritten_source}
 use Rattle.rewritten_sound.specs.WellFormed.{IsGroupName}
+use Rattle.rewritten_sound.specs.Takes.{HoldsOthers}
 
 -- a function with room for its relocates: so few values and lines, and no value named as a token, a relocate or an inserted phi
 pub record HasRoomForGroups (func : Function) : Type 0 where
@@ -21,12 +22,13 @@ pub record HasRoomForGroups (func : Function) : Type 0 where
   pub lines : length (instructions_of func.blocks) < 32768
   pub names : All (λ given. ¬ IsGroupName (definition_name given)) (definitions_of func)
 
--- a typed module of the rewritten form without a group yet
+-- a typed module of the rewritten form without a group yet, whose bundles hold other pointers than their lines give
 pub record IsTypedBefore (content : ModuleContent) (tables : ℕ → List Operand) : Type 0 where
   pub typed : IsTypedModule Rewritten content
   pub before : IsBefore content tables
   pub room : All HasRoomForGroups content.funcs
   pub lines : length (flat_map (λ func. instructions_of func.blocks) content.funcs) < 2 ^ 26
+  pub held : All HoldsOthers content.funcs
 
 -- its rewritten module is typed: lines, types, names, limits and the shape of groups
 abbrev pub RewrittenIsTyped : Type 0

@@ -19,6 +19,11 @@ use Rattle.pair_facts.specs.Lines.{operand_at, phis_in, same_operand}
 use Rattle.pair_facts.specs.Pairs.{along}
 use Rattle.pair_facts.specs.Uses.{Use, accessed_at, checked, compared, escaping, is_checked}
 
+-- what a bundle holds is another pointer than the line gives
+abbrev pub HoldsOthers : Function → Type 0
+HoldsOthers func = (b k v : ℕ) (line : Line) (entry : Ty × Operand) → slice_get (lines_at func b) k ≡ Some line → Contains line.inst.bundle entry
+    → is_pointer entry.0 ≡ true → entry.1 ≡ named v → (among v (pointers func) ≡ true) × (gives line v ≡ false)
+
 module _ (func : Function) (table : List Operand) where
   abbrev pub base_of : Operand → Operand
   base_of (Value value) = base_at table value.0
@@ -98,6 +103,4 @@ module _ (func : Function) (table : List Operand) where
     pub takes : (b k : ℕ) (line : Line) → slice_get (lines_at func b) k ≡ Some line → Takes b k line
     -- a check gives nothing
     pub silent : (b k : ℕ) (line : Line) (types : List Ty) → slice_get (lines_at func b) k ≡ Some line → line.inst.op ≡ Call Check types → line.to ≡ None
-    -- what a bundle holds is another value
-    pub held : (b k v : ℕ) (line : Line) (entry : Ty × Operand) → slice_get (lines_at func b) k ≡ Some line → Contains line.inst.bundle entry
-        → is_pointer entry.0 ≡ true → entry.1 ≡ named v → (among v (pointers func) ≡ true) × (gives line v ≡ false)
+    pub held : HoldsOthers func

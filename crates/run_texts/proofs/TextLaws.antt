@@ -1,16 +1,13 @@
 -- The laws of the texts of runs.
-use Rattle.std.proofs.Common.{◌≡◌, ℕ, ℤ, zero, suc, false, List, [], ◌∷◌, ◌++◌, reverse, refl, sym, ap, ◌∙◌, append_assoc, append-nil}
+use Rattle.std.proofs.Common.{◌≡◌, ℕ, zero, suc, false, List, [], ◌∷◌, ◌++◌, reverse, refl, sym, ap, ◌∙◌, append_assoc, append-nil}
 use Rattle.std.specs.List.{concat}
 use Rattle.std.proofs.lemmas.List.Folds.{concat-append}
 use Rattle.sp_ids.specs.declared.ends.End.{End}
-use Rattle.ir_ast.specs.Modules.{ModuleContent}
-use Rattle.move_plan.specs.declared.plan_lines.PlanLine.{PlanLine}
-use Rattle.map_bytes.specs.Maps.{StackMap}
 use Rattle.object_meaning.specs.Effects.{Effect, goes_on, prints, ends, Progress, after, printed_line, text_of}
 use Rattle.object_meaning.specs.Runs.{Next, Go, End as Over, advance, goes}
 use Rattle.object_meaning.specs.Texts.{function_name}
 use Rattle.object_meaning.specs.Traces.{done_at, traced}
-use Rattle.object_meaning.proofs.RunLaws.{goes_over, not_over, one_end, same_over, traced_more, traced_over}
+use Rattle.object_meaning.proofs.RunLaws.{goes_over, not_over, one_end, traced_more, traced_over}
 use Rattle.machine_meaning.specs.Code.{machinery_of}
 use Rattle.machine_meaning.specs.Machines.{Machine, Machinery}
 use Rattle.machine_meaning.specs.MachineRuns.{MachineOutcome, machine_opening, machine_proceeds}
@@ -19,7 +16,7 @@ use Rattle.machine_meaning.specs.TrapLines.{closing_of}
 use Rattle.tool_report.specs.Closings.{closing_line}
 use Rattle.run_texts.specs.RunTexts.{last_lines, lines_from, printed_by, step_lines}
 use Rattle.run_texts.specs.Statements.{BareTexts, OneText, WrittenFirst}
-use Rattle.object_meaning.proofs.OutcomeLaws.{concat-reverse}
+use Rattle.object_meaning.proofs.OutcomeLaws.{concat-reverse, same_lines}
 
 -- ---- what the first steps do
 
@@ -66,10 +63,6 @@ one_text content map input plan bound places trace one other text other_text fir
     ∙ sym second.is
 
 -- ---- without places and trace
-
-pub same_lines : (end other : End) (machine : Machine) (lines : List (List ℕ)) (last : Progress Machine)
-    → Over end (record { state = machine; lines = lines }) ≡ Over other last → last.lines ≡ lines
-same_lines end other machine lines last is = sym (ap (λ (p : Progress Machine). p.lines) (same_over end other (record { state = machine; lines = lines }) last is).last)
 
 -- what is printed from an effect on
 abbrev printed_from : Machinery → ℕ → List (List ℕ) → Effect Machine → List ℕ

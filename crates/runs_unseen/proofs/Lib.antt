@@ -1,6 +1,5 @@
 pub mod TraceLaws
 pub mod EventLaws
-pub mod MapLaws
 pub mod ShownLaws
 pub mod StepLaws
 pub mod LineCases

@@ -1,15 +1,12 @@
 -- Each line that is executed is one step of both, which see the same accesses: by its operator.
-use Rattle.std.proofs.Common.{◌≡◌, ℕ, false, List, [], ◌∷◌, ◌++◌, map, refl, sym, ap, ◌∙◌, subst}
+use Rattle.std.proofs.Common.{◌≡◌, ℕ, false, List, [], ◌∷◌, map, refl, sym, ap, ◌∙◌, subst}
 use Rattle.ir_ast.specs.declared.ops.Callee.{Callee}
 use Rattle.ir_ast.specs.declared.ops.Callee.TheVariants as callees
 use Rattle.ir_ast.specs.declared.ops.Op.{Op}
 use Rattle.ir_ast.specs.declared.ops.Op.TheVariants as ops
 use Rattle.ir_ast.specs.declared.types.Ty.{Ty}
 use Rattle.ir_ast.specs.Callees.{is_leaf}
-use Rattle.ir_ast.specs.Funcs.{Function}
 use Rattle.ir_ast.specs.Modules.{ModuleContent}
-use Rattle.ir_cfg.specs.Graphs.{graph_of}
-use Rattle.ir_cfg.specs.Paths.{Reached, along, at_entry}
 use Rattle.move_plan.specs.declared.plan_lines.PlanLine.{PlanLine}
 use Rattle.move_plan.specs.Plans.{go}
 use Rattle.object_meaning.specs.Lines.{Line}
@@ -18,8 +15,7 @@ use Rattle.object_meaning.specs.Steps.{step}
 use Rattle.object_meaning.specs.TargetRuns.{target_setting}
 use Rattle.object_meaning.specs.Traces.{access_of, accesses_at}
 use Rattle.pair_facts.specs.Faults.{plain_call}
-use Rattle.pair_facts.specs.Pairs.{Pairs}
-use Rattle.pair_facts.specs.Paths.{Arrives, start, went}
+use Rattle.pair_facts.proofs.PathLaws.{arrives_reached}
 use Rattle.stackmap_write.specs.ModuleMaps.{map_of}
 use Rattle.machine_meaning.specs.Code.{machinery_of}
 use Rattle.machine_meaning.specs.Happenings.{access_by, accesses_by}
@@ -35,12 +31,6 @@ use Rattle.moves_unseen.proofs.BranchSteps.{jump_follows, unreachable_follows}
 use Rattle.moves_unseen.proofs.PlainSteps.{plain_follows}
 use Rattle.moves_unseen.proofs.StandLaws.{line_here}
 use Rattle.runs_unseen.proofs.StepLaws.{calls_follow, helpers_follow, new_objects_follow, polls_follow, returns_follow, skips_follow, tasks_follow}
-
--- a path of a run is a path to its block
-arrives_reached : (func : Function) (block : ℕ) (front : Pairs) → Arrives func block front → Reached (graph_of func) block
-arrives_reached func _ _ start = (0 ∷ [], at_entry)
-arrives_reached func _ _ (went from to front arrives edge) =
-    let before = arrives_reached func from front arrives in (before.0 ++ to ∷ [], along before.0 from to before.1 edge)
 
 module _ (content : ModuleContent) (sound : IsSound content) (plan : List PlanLine) (bound : ℕ) (state : State) (extra : Extra) (related : IsRelated content state extra)
     (line : Line) (rest : List Line) (is : state.running.rest ≡ line ∷ rest) where

@@ -1,8 +1,8 @@
 -- What is proved of the runs of the machine.
-use Rattle.std.specs.Prelude.{◌≡◌, ℕ, ℤ, List, ◌++◌}
+use Rattle.std.specs.Prelude.{ℕ, ℤ, List}
 use Rattle.sp_ids.specs.declared.ends.End.{End}
 use Rattle.object_meaning.specs.Runs.{Reaches}
-use Rattle.object_meaning.specs.Effects.{Progress, text_of}
+use Rattle.object_meaning.specs.Effects.{PrintsMore, Progress}
 use Rattle.machine_meaning.specs.Machines.{Machine, Machinery}
 use Rattle.machine_meaning.specs.MachineRuns.{MachineOutcome, MachineryGives, machine_opening, machine_proceeds}
 
@@ -14,11 +14,7 @@ pub record Given (machinery : Machinery) (input : List ℤ) : Type 0 where
 abbrev pub EachRunEnds : Type 0
 EachRunEnds = (machinery : Machinery) (input : List ℤ) → Given machinery input
 
--- and prints this more behind these lines
-pub record PrintsMore (now last : List (List ℕ)) : Type 0 where
-  pub more : List ℕ
-  pub text : text_of last ≡ text_of now ++ more
-
+-- what it has printed in a state that it comes to stands first in what it prints
 abbrev pub PrintedFirst : Type 0
 PrintedFirst = (machinery : Machinery) (input : List ℤ) (now : Progress Machine) (outcome : MachineOutcome)
     → Reaches {E = End} (machine_proceeds machinery) (machine_opening machinery input) now

@@ -1,5 +1,4 @@
 pub mod RewrittenLaws
 pub mod MakingLaws
 pub mod CallLaws
-pub mod BareLaws
 pub mod RemovalLaws

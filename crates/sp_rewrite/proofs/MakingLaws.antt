@@ -24,7 +24,8 @@ use Rattle.rewritten_sound.specs.Definite.{IsReachedSource, base_tables, rewritt
 use Rattle.rewritten_sound.proofs.definite.Instance.{based_is_before}
 use Rattle.poll_place.specs.Ready.{IsReady}
 use Rattle.poll_place.proofs.ReadyLemmas.{sources_are_ready}
-use Rattle.rewritten_sound.proofs.shape.TargetLaws.{based_is_target, rewritten_is_target}
+use Rattle.rewritten_sound.proofs.shape.BasedTarget.{based_is_target}
+use Rattle.rewritten_sound.proofs.shape.TargetLaws.{rewritten_is_target}
 use Rattle.rewrite_passes.specs.Before.{CanBeMade, CanHaveGroups, made_of}
 use Rattle.sp_rewrite.specs.Before.{FunctionsAreReady}
 use Rattle.sp_rewrite.proofs.RewrittenLaws.{reached_source}

@@ -1,8 +1,6 @@
 //! The rewriting of a module.
 
 ghost use Rattle.std.specs.Prelude.{◌≡◌, map, IfErr, IfOk};
-ghost use Rattle.std.specs.List.{All};
-ghost use Rattle.ir_ast.specs.Bundles.{HasNoBundle};
 ghost use Rattle.ir_ast.specs.Formed.{IsFormedModule};
 ghost use Rattle.ir_cfg.specs.SourceModules.{IsSourceModule};
 ghost use Rattle.ir_cfg.specs.TargetModules.{IsTargetModule};
@@ -30,7 +28,6 @@ pub fn rewrite(alloc: Global, source: Module) -> Result<Verified, RewriteFault>
     ensures verified { IfOk result (λ after. IsVerified after.content) }
     ensures formed { IfOk result (λ after. IsFormedModule after.content) }
     ensures lines { IfOk result (λ after. after.lines ≡ map zeros_of after.content.funcs) }
-    ensures no_bundle { IfOk result (λ after. All HasNoBundle source.content.funcs → All HasNoBundle after.content.funcs) }
     ensures few { IfOk result (λ _. HasFewRelocates source.content) }
     ensures many { IfErr result (λ fault. fault ≡ RewriteFault.TooManyRelocations → HasManyRelocates source.content) }
 {

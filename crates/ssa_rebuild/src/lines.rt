@@ -2,14 +2,13 @@
 
 ghost use Rattle.std.specs.Prelude.{◌≡◌, ◌<◌, ◌≤◌, ◌+◌, ◌^◌, ◌++◌, [], ◌∷◌, length, map, slice_index_or, IfOk};
 ghost use Rattle.ir_ast.specs.Faults.PhiEdges.{is_phi};
-ghost use Rattle.ir_ast.specs.Callees.{is_leaf};
 ghost use Rattle.object_meaning.specs.Lines.{following, numbered};
 ghost use Rattle.object_meaning.specs.TargetRuns.{plain_lines};
 ghost use Rattle.rewriting_forms.specs.Numbered.{is_call};
 ghost use Rattle.ssa_rebuild.specs.Rows.{give_slot, use_slot, uses_of, held_in, own_slots, own_uses, plain_slots, call_slots, one_slots, listed_slots, count_of_call, calls_of, group_list};
 ghost use Rattle.statepoint_insert.specs.Groups.{numbers_in};
 
-use ir_ast::{Callee, Inst, Op, Operand, Ty};
+use ir_ast::{Inst, Op, Operand, Ty};
 use sp_ids::{Memory, ValueId};
 use statepoint_insert::{Group, Relocate};
 use version_walk::{Packed, Slot};
@@ -195,7 +194,7 @@ pub(crate) fn is_call(op: &Op) -> bool
     ensures { result ≡ is_call op.now }
 {
     match op {
-        Op::Call { callee, .. } => !is_leaf(*callee),
+        Op::Call { callee, .. } => !callee.is_leaf(),
         Op::Add
         | Op::Sub
         | Op::Mul
@@ -226,15 +225,6 @@ pub(crate) fn is_call(op: &Op) -> bool
         | Op::Switch
         | Op::Ret
         | Op::Unreachable => false,
-    }
-}
-
-fn is_leaf(callee: Callee) -> bool
-    ensures { result ≡ is_leaf callee }
-{
-    match callee {
-        Callee::Print | Callee::Read | Callee::Check | Callee::Same => true,
-        Callee::Fun(_) | Callee::New(_) | Callee::TaskStart | Callee::Poll => false,
     }
 }
 

@@ -9,7 +9,3 @@ all_front P (x ∷ xs) ys all = (all.0, all_front P xs ys all.1)
 pub all_back : {A : Type 0} (P : A → Type 0) (xs ys : List A) → AllByRecursion P (xs ++ ys) → AllByRecursion P ys
 all_back P [] ys all = all
 all_back P (x ∷ xs) ys all = all_back P xs ys all.1
-
-pub all_joined : {A : Type 0} (P : A → Type 0) (xs ys : List A) → AllByRecursion P xs → AllByRecursion P ys → AllByRecursion P (xs ++ ys)
-all_joined P [] ys front back = back
-all_joined P (x ∷ xs) ys front back = (front.0, all_joined P xs ys front.1 back)

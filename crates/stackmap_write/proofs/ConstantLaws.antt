@@ -1,18 +1,19 @@
 -- The constants of a module's map: each number that needs one is among them, each is a word, and there are at most as many as
 -- operands of bundles.
-use Rattle.std.proofs.Common.{◌≡◌, ◌∙◌, ℕ, suc, ◌+◌, ◌*◌, ◌^◌, ◌<◌, ◌≤◌, Bool, true, false, cond, not, ◌||◌, ℤ, pos, negsuc, List, [], ◌∷◌, ◌++◌, length, get_or, drop, filter, fold, Some, None, nat_lt, Fits, refl, ap, sym, arith, length-append, slice_get, lit<, eq-eqb}
+use Rattle.std.proofs.Common.{◌≡◌, ◌∙◌, ℕ, suc, ◌+◌, ◌*◌, ◌^◌, ◌<◌, ◌≤◌, Bool, true, false, cond, not, ◌||◌, ℤ, pos, negsuc, List, [], ◌∷◌, ◌++◌, length, get_or, drop, filter, fold, Some, None, nat_lt, Fits, refl, ap, sym, arith, length-append, lit<, eq-eqb}
 use Rattle.std.specs.Prelude.{◌-◌, ◌==◌, ◌-ℤ◌, ◌<ℤ◌, int_le, int_lt, FitsSigned}
 use Rattle.std.specs.List.{flat_map, list_any, position_or_len, AllByRecursion}
 use Rattle.std.specs.Option.{unwrap_or}
 use Rattle.std.specs.Int.{w32, cast_signed, cast_unsigned}
-use Rattle.std.proofs.lemmas.Bool.{eqb-true, lt-ltb}
+use Rattle.std.proofs.lemmas.Bool.{lt-ltb}
 use Rattle.std.proofs.lemmas.Int.{ints, of_z-to_z}
 use Rattle.std.proofs.lemmas.Nat.{mod_below}
 use Rattle.std.proofs.Math.Facts.{sfits_to_z}
 use Rattle.std.proofs.Math.Pow.{pow_mono}
 use Rattle.list_laws.proofs.Booleans.{first_true, second_true}
 use Rattle.list_laws.proofs.Places.{drop_item}
-use Rattle.list_laws.proofs.Tests.{any_append, position_passes}
+use Rattle.list_laws.proofs.Tests.{any_append}
+use Rattle.list_laws.proofs.Contents.{each_append}
 use Rattle.sp_ids.specs.Numbers.{signed, wrapped}
 use Rattle.ir_ast.specs.declared.types.Ty.{Ty}
 use Rattle.ir_ast.specs.declared.types.Ty.TheVariants.{Int as Bits, Void, Ptr, Token}
@@ -27,7 +28,6 @@ use Rattle.object_meaning.specs.Numbers.{width_of}
 use Rattle.map_bytes.specs.Fits.{PlaceFits}
 use Rattle.stackmap_write.specs.Constants.{constant_of, entry_number, is_small, large_by, large_in, large_number, large_of, with_constant}
 use Rattle.stackmap_write.specs.ModuleMaps.{constant_at, constant_place, listed_place, number_place}
-use Rattle.stackmap_write.proofs.AppendLemmas.{all_joined}
 
 -- ---- one after the other
 
@@ -105,7 +105,7 @@ with_words constants number all word = by (list_any (λ one. number == one) cons
   where
     by : (there : Bool) → AllByRecursion IsWord (cond there constants (constants ++ number ∷ []))
     by true = all
-    by false = all_joined IsWord constants (number ∷ []) all (word, tt)
+    by false = each_append IsWord constants (number ∷ []) all (word, tt)
 
 pub fold_words : (start numbers : List ℕ) → AllByRecursion IsWord start → AllByRecursion IsWord numbers → AllByRecursion IsWord (fold with_constant start numbers)
 fold_words start [] all words = all
@@ -143,7 +143,7 @@ numbers_of bundle = flat_map (λ entry. large_number (entry_number entry.0 entry
 bundle_words : (bundle : List (Ty × Operand)) → AllByRecursion IsWord (numbers_of bundle)
 bundle_words [] = tt
 bundle_words (entry ∷ bundle) =
-    all_joined IsWord (large_number (entry_number entry.0 entry.1)) (numbers_of bundle) (by (is_small (entry_number entry.0 entry.1))) (bundle_words bundle)
+    each_append IsWord (large_number (entry_number entry.0 entry.1)) (numbers_of bundle) (by (is_small (entry_number entry.0 entry.1))) (bundle_words bundle)
   where
     by : (small : Bool) → AllByRecursion IsWord (cond small [] (constant_of (entry_number entry.0 entry.1) ∷ []))
     by true = tt
@@ -155,11 +155,11 @@ words_by _ bundle = tt
 
 words_in : (insts : List Instruction) → AllByRecursion IsWord (flat_map large_in insts)
 words_in [] = tt
-words_in (inst ∷ insts) = all_joined IsWord (large_in inst) (flat_map large_in insts) (words_by inst.op inst.bundle) (words_in insts)
+words_in (inst ∷ insts) = each_append IsWord (large_in inst) (flat_map large_in insts) (words_by inst.op inst.bundle) (words_in insts)
 
 pub words_of : (funcs : List Function) → AllByRecursion IsWord (flat_map large_of funcs)
 words_of [] = tt
-words_of (func ∷ funcs) = all_joined IsWord (large_of func) (flat_map large_of funcs) (words_in (instructions_of func.blocks)) (words_of funcs)
+words_of (func ∷ funcs) = each_append IsWord (large_of func) (flat_map large_of funcs) (words_in (instructions_of func.blocks)) (words_of funcs)
 
 bundle_count : (bundle : List (Ty × Operand)) → length (numbers_of bundle) ≤ length bundle
 bundle_count [] = omega arith
@@ -236,15 +236,6 @@ place_below constants number listed =
     let below : first < length constants = first_below (λ one. number == one) constants listed in
     let place : constant_at constants number ≡ first = ap (λ b. unwrap_or (cond b (Some first) None) 0) (lt-ltb first (length constants) below) in
     omega (arith, place, below)
-
--- what a reader finds at that place
-pub constant_found : (constants : List ℕ) (number : ℕ) → Listed constants number → slice_get constants (constant_at constants number) ≡ Some number
-constant_found constants number listed =
-    let test : ℕ → Bool = λ one. number == one in
-    let first = position_or_len test constants in
-    let below = lt-ltb first (length constants) (first_below test constants listed) in
-    let passes = position_passes test constants first (ap (λ b. cond b (Some first) None) below) in
-    ap (slice_get constants) (ap (λ b. unwrap_or (cond b (Some first) None) 0) below) ∙ passes.1 ∙ ap (λ (n : ℕ). Some n) (sym (eqb-true number passes.0 passes.2))
 
 -- a number whose constant, if it needs one, is there
 pub number_fits : (constants : List ℕ) → length constants < 2 ^ 32 → (number : ℤ) → AllByRecursion (Listed constants) (large_number number)

@@ -4,9 +4,7 @@ use Rattle.std.proofs.lemmas.Bool.{lt-ltb}
 use Rattle.list_laws.proofs.Places.{get_some, drop_at}
 use Rattle.std.specs.Option.{option_map_or}
 use Rattle.std.specs.List.{flat_map}
-use Rattle.ir_ast.specs.Funcs.{Function}
-use Rattle.frame_forms.specs.CodeAddresses.{next_start}
-use Rattle.frame_forms.specs.ModuleLayouts.{FunctionLayout, laid_from, statepoints_in}
+use Rattle.frame_forms.specs.ModuleLayouts.{FunctionLayout, statepoints_in}
 use Rattle.map_bytes.specs.declared.values.FuncEntry.{FuncEntry}
 use Rattle.map_bytes.specs.Maps.{counted_records, function_bytes}
 use Rattle.stackmap_write.specs.ModuleMaps.{entry_of, entries_of, entry_in}
@@ -55,10 +53,6 @@ counted_step laid func below = by_count (statepoints_in laid func) refl
         → counted_records (entries_of (drop func laid)) ≡ statepoints_in laid func + counted_records (entries_of (drop (func + 1) laid))
     by_count zero is = ap counted_records (entries_skipped laid func below (omega arith)) ∙ (omega arith)
     by_count (suc n) is = ap counted_records (entries_taken laid func below (omega arith))
-
-pub length-laid_from : (start : ℕ) (funcs : List Function) → length (laid_from start funcs) ≡ length funcs
-length-laid_from start [] = refl
-length-laid_from start (func ∷ funcs) = ap suc (length-laid_from (next_start start func) funcs)
 
 short_by : (has : Bool) (one : FunctionLayout) (laid : List FunctionLayout) → length (entries_of laid) ≤ length laid → length (entries_by has one laid) ≤ suc (length laid)
 short_by true one laid short = omega arith

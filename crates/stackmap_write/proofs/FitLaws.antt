@@ -5,7 +5,7 @@ use Rattle.std.specs.List.{All, AllByRecursion, flat_map}
 use Rattle.std.proofs.lemmas.Int.{ints}
 use Rattle.std.proofs.lemmas.List.Elements.{All-head, All-tail, filter-append}
 use Rattle.std.proofs.lemmas.List.Sums.{count_by-le-length, length-filter}
-use Rattle.list_laws.proofs.Contents.{all_at}
+use Rattle.list_laws.proofs.Contents.{all_at, each_append}
 use Rattle.list_laws.proofs.Places.{get_middle}
 use Rattle.sp_ids.specs.declared.memory.Memory.{Memory}
 use Rattle.ir_ast.specs.declared.modules.Form.TheVariants.{Rewritten}
@@ -24,15 +24,16 @@ use Rattle.frame_forms.specs.CodeAddresses.{next_start}
 use Rattle.frame_forms.specs.FrameSizes.{frame_words, is_named_integer, words_at, words_of}
 use Rattle.frame_forms.specs.ModuleLayouts.{FunctionLayout, laid_at, laid_from, layout_of, statepoints_of}
 use Rattle.frame_forms.proofs.ReturnLemmas.{group_within}
+use Rattle.frame_forms.proofs.LayoutLemmas.{length-laid_from}
 use Rattle.map_bytes.specs.declared.values.Place.{Place}
 use Rattle.map_bytes.specs.Maps.{IsMap, IsMapOf, counted_records, map_bytes}
 use Rattle.map_bytes.specs.Fits.{FunctionFits, MapFits, PlaceFits, RecordFits}
 use Rattle.map_bytes.proofs.FitsLaws.{fits-map}
 use Rattle.stackmap_write.specs.Constants.{constants_of, large_by, large_in, large_of}
 use Rattle.stackmap_write.specs.ModuleMaps.{deopt_places, entries_of as function_entries, entry_of, map_of, member_places, records_at, records_from, records_of}
-use Rattle.stackmap_write.proofs.AppendLemmas.{all_back, all_front, all_joined}
+use Rattle.stackmap_write.proofs.AppendLemmas.{all_back, all_front}
 use Rattle.stackmap_write.proofs.ConstantLaws.{Listed, all_listed, constant_fits, count_in, fold_length, fold_words, words_of as all_words}
-use Rattle.stackmap_write.proofs.EntryLemmas.{counted_step, entries_short, length-laid_from}
+use Rattle.stackmap_write.proofs.EntryLemmas.{counted_step, entries_short}
 use Rattle.stackmap_write.proofs.PlaceFitLaws.{FitsInMap, all_taken, deopts_count, deopts_fit, members_fit, places_fit}
 use Rattle.stackmap_write.proofs.GroupLaws.{Head, run_count}
 
@@ -83,7 +84,7 @@ statepoint_fits constants few_constants func target front inst rest whole (State
     (members_fit (length constants) func target.shape target.small.statepoints (front ++ inst ∷ []) rest behind) in
     let zeros = constant_fits (length constants) (pos 0) (omega (arith, ints)) in
     let third = constant_fits (length constants) (pos (length deopts)) (omega (arith, ints)) in
-    let locations = all_joined (PlaceFits (length constants)) deopts members (deopts_fit constants few_constants inst live bundle listed) (places_fit (length constants) group fit) in (
+    let locations = each_append (PlaceFits (length constants)) deopts members (deopts_fit constants few_constants inst live bundle listed) (places_fit (length constants) group fit) in (
       record {
         id = word;
         offset = omega (arith, target.small.few_instructions);
@@ -103,7 +104,7 @@ records_fit constants few func target front (inst ∷ rest) whole listed =
     let behind : instructions_of func.blocks ≡ (front ++ inst ∷ []) ++ rest = whole ∙ sym (append_assoc front (inst ∷ []) rest) in
     let further : length (front ++ inst ∷ []) ≡ length front + 1 = length-append front (inst ∷ []) in
     let P : ℕ → Type 0 = λ n. AllByRecursion (RecordFits (length constants)) (records_from constants n rest) in
-    all_joined (RecordFits (length constants)) (records_at (length front) (deopt_places constants inst) inst.op rest) (records_from constants (length front + 1) rest)
+    each_append (RecordFits (length constants)) (records_at (length front) (deopt_places constants inst) inst.op rest) (records_from constants (length front + 1) rest)
     (statepoint_fits constants few func target front inst rest whole inst.op refl (all_front (Listed constants) (large_in inst) (flat_map large_in rest) listed))
     (subst P further (records_fit constants few func target (front ++ inst ∷ []) rest behind (all_back (Listed constants) (large_in inst) (flat_map large_in rest) listed)))
 
@@ -111,7 +112,7 @@ all_records_fit : (constants : List ℕ) → length constants < 2 ^ 32 → (func
     → AllByRecursion (RecordFits (length constants)) (flat_map (records_of constants) funcs)
 all_records_fit constants few [] targets listed = tt
 all_records_fit constants few (func ∷ funcs) targets listed =
-    all_joined (RecordFits (length constants)) (records_of constants func) (flat_map (records_of constants) funcs)
+    each_append (RecordFits (length constants)) (records_of constants func) (flat_map (records_of constants) funcs)
     (records_fit constants few func (All-head IsTarget func funcs targets) [] (instructions_of func.blocks) refl (all_front (Listed constants) (large_of func) (flat_map large_of funcs) listed))
     (all_records_fit constants few funcs (All-tail IsTarget func funcs targets) (all_back (Listed constants) (large_of func) (flat_map large_of funcs) listed))
 

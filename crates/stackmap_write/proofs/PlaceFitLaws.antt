@@ -5,6 +5,7 @@ use Rattle.std.proofs.lemmas.Bool.{ltb-true}
 use Rattle.std.proofs.lemmas.Int.{ints}
 use Rattle.std.proofs.lemmas.Option.{slice_get_within}
 use Rattle.list_laws.proofs.Places.{get_middle}
+use Rattle.list_laws.proofs.Contents.{each_append}
 use Rattle.ir_ast.specs.declared.ops.Op.{Op}
 use Rattle.ir_ast.specs.declared.ops.Op.TheVariants.{GcRelocate}
 use Rattle.ir_ast.specs.declared.types.Ty.{Ty}
@@ -22,7 +23,7 @@ use Rattle.frame_forms.specs.BundleWords.{deopt_word, deopt_words_from, words_ta
 use Rattle.map_bytes.specs.Fits.{PlaceFits}
 use Rattle.stackmap_write.specs.Constants.{entry_number, large_number}
 use Rattle.stackmap_write.specs.ModuleMaps.{deopt_place, deopt_places, places_by, slot_place, pair_places, member_places}
-use Rattle.stackmap_write.proofs.AppendLemmas.{all_back, all_front, all_joined}
+use Rattle.stackmap_write.proofs.AppendLemmas.{all_back, all_front}
 use Rattle.stackmap_write.proofs.ConstantLaws.{Listed, number_fits}
 
 slot_fits : (constants word : ℕ) → word < 16448 → PlaceFits constants (slot_place word)
@@ -55,7 +56,7 @@ pub members_alone : (constants : ℕ) (group : List Instruction) → AllByRecurs
     → AllByRecursion (PlaceFits 0) (flat_map member_places group)
 members_alone constants [] fits = tt
 members_alone constants (inst ∷ group) fits =
-    all_joined (PlaceFits 0) (member_places inst) (flat_map member_places group)
+    each_append (PlaceFits 0) (member_places inst) (flat_map member_places group)
     (pairs_alone constants inst.op inst.operands (all_front (PlaceFits constants) (member_places inst) (flat_map member_places group) fits))
     (members_alone constants group (all_back (PlaceFits constants) (member_places inst) (flat_map member_places group) fits))
 
@@ -96,7 +97,7 @@ all_taken P (suc n) (x ∷ xs) all = (all.0, all_taken P n xs all.1)
 pub places_fit : (constants : ℕ) (insts : List Instruction) → AllByRecursion (FitsInMap constants) insts → AllByRecursion (PlaceFits constants) (flat_map member_places insts)
 places_fit constants [] all = tt
 places_fit constants (inst ∷ insts) all =
-    all_joined (PlaceFits constants) (member_places inst) (flat_map member_places insts) all.0 (places_fit constants insts all.1)
+    each_append (PlaceFits constants) (member_places inst) (flat_map member_places insts) all.0 (places_fit constants insts all.1)
 
 -- ---- bundles
 

@@ -1,41 +1,16 @@
 -- A line's value has the name that its instruction gives it.
-use Rattle.std.proofs.Common.{◌≡◌, ℕ, zero, suc, ◌+◌, Bool, true, false, if◌then◌else◌, List, [], ◌∷◌, ◌++◌, length, map, drop, refl, sym, ap, arith, append-nil, append_assoc, ◌∙◌, Some, None, Option, slice_get}
-use Rattle.std.specs.Prelude.{is_some, slice_index, filter, unwrap_or}
+use Rattle.std.proofs.Common.{◌≡◌, ℕ, zero, suc, ◌+◌, true, if◌then◌else◌, List, [], ◌∷◌, ◌++◌, length, drop, refl, ap, append_assoc, ◌∙◌, Some, None, Option, slice_get}
+use Rattle.std.specs.Prelude.{is_some, slice_index, unwrap_or}
 use Rattle.std.specs.Option.{option_map, option_map_or}
-use Rattle.std.proofs.lemmas.List.{length-map, map-append}
-use Rattle.std.proofs.lemmas.List.Elements.{filter-append}
-use Rattle.std.proofs.Math.Seq.{drop-append_seam}
 use Rattle.ir_ast.specs.Insts.{Instruction}
 use Rattle.ir_ast.specs.Blocks.{BasicBlock}
 use Rattle.ir_ast.specs.Funcs.{Function, instructions_of}
-use Rattle.ir_ast.specs.Values.{Definition, argument, outcome, definition_name, definitions_of}
+use Rattle.ir_ast.specs.Values.{Definition, outcome, definition_name, definitions_of}
 use Rattle.object_meaning.specs.Lines.{Line, after_all, first_registers, following, numbered}
 use Rattle.object_meaning.specs.TargetRuns.{plain_lines}
+use Rattle.object_meaning.proofs.GivenLaws.{drop_all, drop_given, given_append, given_by, results_last}
 use Rattle.rewriting_forms.specs.Numbered.{lines_at}
 use Rattle.rewriting_forms.specs.Rewritten.{old_name}
-use Rattle.list_laws.proofs.Places.{drop_first}
-
-abbrev has_result : Instruction → Bool
-has_result inst = is_some inst.result
-
-abbrev given_by : List Instruction → List Definition
-given_by insts = map outcome (filter has_result insts)
-
-given_append : (xs ys : List Instruction) → given_by (xs ++ ys) ≡ given_by xs ++ given_by ys
-given_append xs ys = ap (map outcome) (filter-append has_result xs ys) ∙ map-append outcome (filter has_result xs) (filter has_result ys)
-
-drop_given : (all : List Definition) (next : ℕ) (inst : Instruction) (insts : List Instruction) (after : List Definition) → drop next all ≡ given_by (inst ∷ insts) ++ after
-    → (is_some inst.result ≡ true → slice_get all next ≡ Some (outcome inst)) × (drop (following next inst) all ≡ given_by insts ++ after)
-drop_given all next inst insts after is = by (is_some inst.result) is
-  where
-    by : (b : Bool) → drop next all ≡ map outcome (if b then inst ∷ filter has_result insts else filter has_result insts) ++ after
-        → (b ≡ true → slice_get all next ≡ Some (outcome inst)) × (drop (if b then next + 1 else next) all ≡ given_by insts ++ after)
-    by true from = let found = drop_first all next (outcome inst) (given_by insts ++ after) from in (λ named. found.0, found.1)
-    by false from = (λ named. absurd cc, from)
-
-drop_all : (all : List Definition) (next : ℕ) (insts : List Instruction) (after : List Definition) → drop next all ≡ given_by insts ++ after → drop (after_all next insts) all ≡ after
-drop_all all next [] after is = is
-drop_all all next (inst ∷ insts) after is = drop_all all (following next inst) insts after (drop_given all next inst insts after is).1
 
 module _ (func : Function) where
   abbrev IsNamed : Line → Type 0
@@ -76,10 +51,5 @@ module _ (func : Function) where
       block_named (after_all next block.insts) b k line blocks after
       (drop_all (definitions_of func) next block.insts (given_by (instructions_of blocks) ++ after) (first_given next block blocks after given)) stands
 
-  start : drop (length func.args) (definitions_of func) ≡ given_by (instructions_of func.blocks) ++ []
-  start =
-      ap (λ n. drop n (definitions_of func)) (sym (length-map func.args argument))
-      ∙ (drop-append_seam (map argument func.args) (given_by (instructions_of func.blocks)) ∙ sym (append-nil (given_by (instructions_of func.blocks))))
-
   pub old_name_is : (b k : ℕ) (line : Line) → slice_get (lines_at func b) k ≡ Some line → option_map (old_name func) line.to ≡ line.inst.result
-  old_name_is b k line stands = block_named (length func.args) b k line func.blocks [] start stands
+  old_name_is b k line stands = block_named (length func.args) b k line func.blocks [] (results_last func) stands

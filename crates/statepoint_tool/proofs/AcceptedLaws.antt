@@ -1,9 +1,7 @@
 -- The module of an accepted text.
 use Rattle.std.proofs.Common.{◌≡◌, ◌≤◌, ℕ, List, length, sym, subst, ◌∙◌}
-use Rattle.std.specs.List.{All}
 use Rattle.ir_ast.specs.declared.modules.Form.{Form as TextForm}
 use Rattle.ir_ast.specs.declared.modules.Form.TheVariants as text_forms
-use Rattle.ir_ast.specs.Bundles.{HasNoBundle}
 use Rattle.ir_cfg.specs.TypedModules.{IsModuleOf}
 use Rattle.ir_lines.specs.Statements.{Line}
 use Rattle.ir_types.specs.FaultSet.{HasNoFault}
@@ -26,18 +24,14 @@ within_told files name text taken is told =
 pub within_given : (files : FilesSeen) (name text : List ℕ) (taken : Taken) → taken ≡ Bytes text → MayGive files name taken → length text ≤ 16777216
 within_given files name text taken is may = (let gave : MayGive files name (Bytes text) = subst (MayGive files name) is may in gave.0)
 
-abbrev pub IsBareModule : TextForm → List Line → Type 0
-IsBareModule form lines = IsModuleOf form (content_of form lines) × All HasNoBundle (content_of form lines).funcs
-
--- it is a source module, or of a rewritten text a target module, without bundles
-pub module_of_accepted : (form : TextForm) (text : List ℕ) (lines : List Line) → length text ≤ 16777216 → IsAccepted form text lines → IsBareModule form lines
+-- it is a source module, or of a rewritten text a target module
+pub module_of_accepted : (form : TextForm) (text : List ℕ) (lines : List Line) → length text ≤ 16777216 → IsAccepted form text lines → IsModuleOf form (content_of form lines)
 module_of_accepted form text lines within accepted =
-    subst (IsBareModule form) (sym accepted.read.are)
+    subst (λ (now : List Line). IsModuleOf form (content_of form now)) (sym accepted.read.are)
     (accepted_is_of form text accepted.read.readings within accepted.read.read (subst (HasNoFault form) accepted.read.are accepted.faultless))
 
 -- and sound where the verifier finds no fault
 pub sound_of_accepted : (text : List ℕ) (lines : List Line) → length text ≤ 16777216 → IsAccepted text_forms.Rewritten text lines
     → IsVerified (content_of text_forms.Rewritten lines) → IsSound (content_of text_forms.Rewritten lines)
 sound_of_accepted text lines within accepted none =
-    let is = module_of_accepted text_forms.Rewritten text lines within accepted in
-    record { target = is.0; verified = none }
+    record { target = module_of_accepted text_forms.Rewritten text lines within accepted; verified = none }

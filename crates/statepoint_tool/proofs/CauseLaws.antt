@@ -506,7 +506,7 @@ module _ (words : List (List ℕ)) (given : Given) (within : IsWithin words give
   pub module_is : (accepted : ReadsModule words given) → IsModuleOf (form_of accepted.asks.engine) (content_of (form_of accepted.asks.engine) accepted.lines)
   module_is accepted =
       let form = form_of accepted.asks.engine in
-      (module_of_accepted form accepted.text accepted.lines (within form accepted.asks.request.code accepted.text (to_run accepted.asks) accepted.taken) accepted.accepted).0
+      module_of_accepted form accepted.text accepted.lines (within form accepted.asks.request.code accepted.text (to_run accepted.asks) accepted.taken) accepted.accepted
 
   with_module : (accepted : ReadsModule words given) (step : Step Output) →
       after_module accepted.asks.request.input accepted.asks.request.plan accepted.asks.engine (content_of (form_of accepted.asks.engine) accepted.lines) accepted.asks.request.steps

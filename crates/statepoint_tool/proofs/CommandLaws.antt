@@ -1,14 +1,9 @@
 -- What the command `rewrite` writes, the command `check` takes.
 use Rattle.std.proofs.Common.{◌≡◌, ◌≤◌, ◌∙◌, ℕ, List, length, Option, Some, refl, sym, subst}
-use Rattle.std.specs.List.{All}
 use Rattle.ir_ast.specs.declared.modules.Form.TheVariants.{Rewritten, Source}
-use Rattle.ir_ast.specs.Bundles.{HasNoBundle}
 use Rattle.ir_ast.specs.Modules.{LinedModule}
-use Rattle.ir_cfg.specs.SourceModules.{IsSourceModule}
 use Rattle.ir_lines.specs.Modules.{module_of}
-use Rattle.ir_lines.specs.Statements.{Line, lines_of}
-use Rattle.ir_types.specs.FaultSet.{HasNoFault}
-use Rattle.read_back.proofs.accepted_texts.Accepted.{accepted_is_source}
+use Rattle.ir_lines.specs.Statements.{lines_of}
 use Rattle.tool_words.specs.Words.{command_of}
 use Rattle.tool_words.specs.declared.request.Command.{Command}
 use Rattle.tool_words.specs.declared.request.Command.TheVariants.{Check, Exec, Gen, Rewrite, Run, Show, Source as SourceRun}
@@ -22,14 +17,8 @@ use Rattle.statepoint_tool.specs.Work.{Given, MayGiveNamed, MayGiveShown, check_
 use Rattle.statepoint_tool.proofs.TextLaws.{as-accepted}
 use Rattle.statepoint_tool.specs.Commands.{AsksForText, WrittenTextsAreOk}
 use Rattle.statepoint_tool.specs.Passes.{Passes}
+use Rattle.statepoint_tool.proofs.AcceptedLaws.{module_of_accepted}
 use Rattle.statepoint_tool.proofs.PassLaws.{rewritten_texts_pass}
-
--- the module of a source text that is accepted is a source module without bundles
-source_of : (text : List ℕ) (lines : List Line) → length text ≤ 16777216 → IsAccepted Source text lines
-    → IsSourceModule (content_of Source lines) × All HasNoBundle (content_of Source lines).funcs
-source_of text lines small accepted =
-    subst (λ (now : List Line). IsSourceModule (content_of Source now) × All HasNoBundle (content_of Source now).funcs) (sym accepted.read.are)
-    (accepted_is_source text accepted.read.readings small accepted.read.read (subst (λ (now : List Line). HasNoFault Source now) accepted.read.are accepted.faultless))
 
 -- a text that passes comes to `ok`
 ok_of : (text : List ℕ) → Passes text → (module_file : List ℕ) (later : Given) → later.module_file ≡ Bytes text → check_work module_file later (Go passed)
@@ -65,9 +54,9 @@ module _ (words : List (List ℕ)) (asks : AsksForText words) where
         let file : reads.asks.module_file ≡ asks.module_file = cc in
         let gives : MayGiveShown files reads.asks.module_file given = subst (λ (command : Option Command). MayGiveNamed files command given) reads.asks.command may in
         let within : MayGive files reads.asks.module_file (Bytes reads.text) = subst (λ (taken : Taken). MayGive files reads.asks.module_file taken) reads.taken gives in
-        let source = source_of reads.text reads.lines within.0 reads.accepted in
+        let source = module_of_accepted Source reads.text reads.lines within.0 reads.accepted in
         subst (λ (p : Part). length (text_of_part p rewrites.after) ≤ 16777216 → Passes (text_of_part p rewrites.after)) (sym part)
-        (rewritten_texts_pass (content_of Source reads.lines) rewrites.after source.0 source.1 rewrites.is) short
+        (rewritten_texts_pass (content_of Source reads.lines) rewrites.after source rewrites.is) short
 
 pub written_texts_are_ok : WrittenTextsAreOk
 written_texts_are_ok words asks files given may _ (by_rewriting rewrites) short module_file later taken =

@@ -136,7 +136,7 @@ module _ (words : List (List ℕ)) (given : Given) (within : IsWithin words give
   faultless_ends (may_check checks) = (passed, by_checking checks)
   faultless_ends (may_rewrite reads few) =
       let is = module_of_accepted text_forms.Source reads.text reads.lines (within text_forms.Source reads.asks.module_file reads.text (to_rewrite reads.asks) reads.taken) reads.accepted in
-      let made = source_is_rewritten (content_of text_forms.Source reads.lines) is.0 in
+      let made = source_is_rewritten (content_of text_forms.Source reads.lines) is in
       (written_of reads.asks.part made.0, by_rewriting (record { reads = reads; after = made.0; is = made.1; few = few }))
   faultless_ends (may_run all) =
       let numbers = input_of all.input_text all.input_faultless in

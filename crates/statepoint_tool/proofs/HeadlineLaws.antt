@@ -130,10 +130,10 @@ module _ (words : List (List ℕ)) (given : Given) (places trace : Bool) (run : 
       → AllTold files (command_of words) given → ¬ SinkFailed out → IsRunAsMeant run status out notes
   as_meant files out notes status answer within told sure =
       let is = module_of_accepted text_forms.Source run.text run.lines within run.accepted in
-      let few = few_unless_many source is.0 run.known in
+      let few = few_unless_many source is run.known in
       let found = gives_some (source_setting source (go run.plan) run.request.steps) run.input in
       let moved : IsRunOnMachine source run.input run.plan run.request.steps found.outcome =
-      sources_run_on_machine source few.reached is.0 few.drops run.input run.plan run.request.steps found.outcome found.gives in
+      sources_run_on_machine source few.reached is few.drops run.input run.plan run.request.steps found.outcome found.gives in
       let own = texted moved.after (map_of moved.after) run.input run.plan run.request.steps places trace moved.machine moved.gives in
       let runs : RunsRewritten words given = record {
         reads = source_reads;
@@ -149,11 +149,11 @@ module _ (words : List (List ℕ)) (given : Given) (places trace : Bool) (run : 
       } in
       let whole = written_as words files out notes status answer given (ended_with own.text (lines_of_run own.writes) found.outcome.end) told (by_running_rewritten runs) sure in
       let sound : IsSound moved.after = record {
-        target = rewriting_is_target source moved.after is.0 moved.rewritten;
-        verified = rewriting_is_verified source moved.after is.0 moved.rewritten;
+        target = rewriting_is_target source moved.after is moved.rewritten;
+        verified = rewriting_is_verified source moved.after is moved.rewritten;
       } in
       let seen = seen_here moved.after sound run.input run.plan run.request.steps moved.machine moved.gives in
-      let meant_again = (rewriting_keeps_meaning source moved.after is.0 moved.rewritten run.input (go run.plan) run.request.steps seen.outcome).1 seen.gives in
+      let meant_again = (rewriting_keeps_meaning source moved.after is moved.rewritten run.input (go run.plan) run.request.steps seen.outcome).1 seen.gives in
       let one = gives_one (source_setting source (go run.plan) run.request.steps) run.input seen.outcome found.outcome meant_again found.gives in
       record {
         meant = found.outcome;
@@ -168,7 +168,7 @@ module _ (words : List (List ℕ)) (given : Given) (places trace : Bool) (run : 
         machine_writes = own.writes;
         module_text = part_written Text moved.after moved.rewritten;
         bytes = part_written MapBytes moved.after moved.rewritten;
-        is_map = record { allowed = target_map_is_map moved.after (rewriting_is_target source moved.after is.0 moved.rewritten); spelled = refl };
+        is_map = record { allowed = target_map_is_map moved.after (rewriting_is_target source moved.after is moved.rewritten); spelled = refl };
       }
 
 pub IsHeadline-answer : (words : List (List ℕ)) (files : FilesSeen) (out notes : SinkSeen) (status : Status) → IsAnswer words files out notes status → IsHeadline words files out notes status

@@ -12,7 +12,6 @@ use Rattle.ir_types.specs.FaultSet.{HasNoFault}
 use Rattle.pair_facts.specs.Faults.{IsFault, IsVerified}
 use Rattle.read_back.proofs.accepted_texts.Accepted.{accepted_is_source}
 use Rattle.read_back.proofs.TheLaw.{reads_back}
-use Rattle.sp_rewrite.proofs.BareLaws.{no_bundle}
 use Rattle.sp_rewrite.proofs.RewrittenLaws.{rewriting_is_target, rewriting_is_verified}
 use Rattle.statepoint_verify.specs.declared.faults.VerifyFault.TheVariants as refusals
 use Rattle.statepoint_tool.specs.Passes.{AcceptedTextsPass, RewrittenTextsPass, VerifierRefusesNone}
@@ -25,9 +24,9 @@ verifier_refuses_none whole (refusals.Fault fault back) verified refusal = absur
 verifier_refuses_none whole (refusals.Memory back) verified refusal = ap refusals.Memory refusal
 
 pub rewritten_texts_pass : RewrittenTextsPass
-rewritten_texts_pass content after source bare is short =
+rewritten_texts_pass content after source is short =
     let target = rewriting_is_target content after source is in
-    let back = reads_back Rewritten after target (no_bundle content after is bare) short in
+    let back = reads_back Rewritten after target short in
     let same : (module_of Rewritten (lines_of back.readings)).content ≡ after =
     subst (λ (form : Form). (module_of form (lines_of back.readings)).content ≡ after) target.typed.of_form back.same in
     record {
@@ -39,5 +38,4 @@ rewritten_texts_pass content after source bare is short =
 
 pub accepted_texts_pass : AcceptedTextsPass
 accepted_texts_pass text readings after within reads none is short =
-    let source = accepted_is_source text readings within reads none in
-    rewritten_texts_pass (module_of Source (lines_of readings)).content after source.0 source.1 is short
+    rewritten_texts_pass (module_of Source (lines_of readings)).content after (accepted_is_source text readings within reads none) is short

@@ -1,8 +1,6 @@
 -- What is proved of the texts of rewritten modules.
 use Rattle.std.specs.Prelude.{◌≡◌, ◌≤◌, ℕ, List, Ok, length}
-use Rattle.std.specs.List.{All}
 use Rattle.ir_ast.specs.declared.modules.Form.TheVariants.{Rewritten, Source}
-use Rattle.ir_ast.specs.Bundles.{HasNoBundle}
 use Rattle.ir_ast.specs.Modules.{LinedModule, ModuleContent}
 use Rattle.ir_cfg.specs.SourceModules.{IsSourceModule}
 use Rattle.ir_lines.specs.Modules.{module_of}
@@ -23,10 +21,10 @@ pub record Passes (text : List ℕ) : Type 0 where
   pub no_fault : HasNoFault Rewritten (lines_of readings)
   pub verified : IsVerified (module_of Rewritten (lines_of readings)).content
 
--- the text of the rewritten module of a source module without bundles passes, where it is within the file limit
+-- the text of the rewritten module of a source module passes, where it is within the file limit
 abbrev pub RewrittenTextsPass : Type 0
-RewrittenTextsPass = (content after : ModuleContent) → IsSourceModule content → All HasNoBundle content.funcs → IsRewritten content after
-    → length (text_of after) ≤ 16777216 → Passes (text_of after)
+RewrittenTextsPass = (content after : ModuleContent) → IsSourceModule content → IsRewritten content after → length (text_of after) ≤ 16777216
+    → Passes (text_of after)
 
 -- so text to text: that of the rewritten module of an accepted source text
 abbrev pub AcceptedTextsPass : Type 0

@@ -49,6 +49,12 @@ pub(crate) fn found(
     if asked == b"place".as_slice() {
         return Ok(Some(number_found(alloc, tried.heap.place(ObjId(words.number())))?));
     }
+    if asked == b"object".as_slice() {
+        return Ok(Some(match tried.heap.object_at(words.number()) {
+            Some(ObjId(object)) => format!(in alloc; "{object}")?,
+            None => String::from_str(alloc, "none")?,
+        }));
+    }
     if asked == b"shape".as_slice() {
         return Ok(Some(match tried.heap.shape(ObjId(words.number())) {
             Some((layout, count)) => format!(in alloc; "{layout} {count}")?,

@@ -2,7 +2,7 @@
 
 use crate::tried::Tried;
 use crate::words::Words;
-use frame_walk::{FrameMap, LostFrame, Stack, walk};
+use frame_walk::{FrameChange, FrameMap, FrameRecord, LostFrame, Stack, walk};
 use map_bytes::Place;
 use std::alloc::{AllocError, Global};
 
@@ -101,6 +101,16 @@ fn map_found(
         let records = tried.map.lent();
         return Ok(Some(shown_frames(alloc, &records, &mut tried.stack, words.number())?));
     }
+    if asked == b"change".as_slice() {
+        let records = tried.map.lent();
+        let ended = tried
+            .stack
+            .change_frames(&records, words.number(), &mut Raising);
+        return Ok(Some(match ended {
+            Some(address) => format!(in alloc; "lost {address}")?,
+            None => String::from_str(alloc, "end")?,
+        }));
+    }
     Ok(None)
 }
 
@@ -141,6 +151,20 @@ fn shown_frames<M: FrameMap>(
         None => shown.push_str("end")?,
     }
     Ok(shown)
+}
+
+// Each word of a frame is raised by one.
+#[derive(Drop)]
+struct Raising;
+
+impl FrameChange for Raising {
+    ghost use Rattle.std.specs.Prelude.{⊤};
+
+    ghost does = { λ _ _ _ _ _. ⊤ };
+
+    fn change<R: FrameRecord>(&mut self, _one: &R, words: &mut [u64]) {
+        raise(words);
+    }
 }
 
 fn raise(words: &mut [u64]) {

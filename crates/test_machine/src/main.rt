@@ -1,16 +1,17 @@
-//! Runs modules in the rewritten form on a heap that moves, each over the stack map that is written of it, as a test and for
-//! bench/machine.
+//! Runs modules in the rewritten form on a heap that moves, each over the stack map that is written of it or over given bytes, as a
+//! test and for bench/machine.
 #![tactic(auto)]
 
 mod running;
 
+use anyhow::Result;
 use ir_machine::Shows;
-use running::show_run;
+use running::{show_over, show_run};
 use std::process::ExitCode;
 use std::{env, io};
 
 const USAGE: &str =
-    "usage: test_machine run|trace MODULE INPUT PLAN STEPS, or test_machine show NAME..";
+    "usage: test_machine run|trace MODULE INPUT PLAN STEPS, or test_machine show NAME.. over NAME..";
 
 const NOTHING: Shows = Shows {
     places: false,
@@ -54,15 +55,38 @@ fn main(rt: HostRuntime) -> io::Result<ExitCode> {
     }
 }
 
-// Runs NAME.ll under NAME.plan, without an input, for each of these names, with its trace and its places.
+// Runs NAME.ll under NAME.plan for each of these names, with its trace and its places: without an input and over its own map, and
+// behind the word `over` with the input of NAME.input and over the bytes of NAME.map.
 fn show_all(rt: &HostRuntime, names: &[&str]) -> io::Result<ExitCode> {
+    let mut given = false;
     for name in names {
-        println!(rt; "module {name}")?;
-        let module = format!(in rt.alloc(); "{name}.ll")?;
-        let plan = format!(in rt.alloc(); "{name}.plan")?;
-        let _ = show(rt, module.as_str(), "/dev/null", plan.as_str(), 1_000, ALL)?;
+        if *name == "over" {
+            given = true;
+        } else {
+            println!(rt; "module {name}")?;
+            show_named(rt, name, given)?;
+        }
     }
     Ok(ExitCode::SUCCESS)
+}
+
+fn show_named(rt: &HostRuntime, name: &str, given: bool) -> io::Result<()> {
+    if given {
+        return told(rt, show_over(rt, name, 1_000, ALL));
+    }
+    let module = format!(in rt.alloc(); "{name}.ll")?;
+    let plan = format!(in rt.alloc(); "{name}.plan")?;
+    told(
+        rt,
+        show_run(rt, module.as_str(), "/dev/null", plan.as_str(), 1_000, ALL),
+    )
+}
+
+fn told(rt: &HostRuntime, shown: Result<()>) -> io::Result<()> {
+    match shown {
+        Ok(()) => Ok(()),
+        Err(error) => println!(rt; "{error}"),
+    }
 }
 
 fn show(

@@ -24,42 +24,66 @@ pub(crate) fn show_run(
     steps: u64,
     shows: Shows,
 ) -> Result<()> {
+    let whole = module_of(rt, module)?;
+    let layouts = Layouts::of(rt.alloc(), &whole)?;
+    let map = write(rt.alloc(), &whole, &layouts)?;
+    run(rt, &whole, &map, input, plan, steps, shows)
+}
+
+/// The same of NAME.ll over the bytes of NAME.map, with the input of NAME.input and under NAME.plan.
+pub(crate) fn show_over(rt: &HostRuntime, name: &str, steps: u64, shows: Shows) -> Result<()> {
     let alloc = rt.alloc();
-    let text = taken(rt, module)?;
-    let numbers = taken(rt, input)?;
-    let lines = taken(rt, plan)?;
-    let Ok(raw) = read_rewritten(alloc, &text) else {
+    let whole = module_of(rt, format!(in alloc; "{name}.ll")?.as_str())?;
+    let map = taken(rt, format!(in alloc; "{name}.map")?.as_str())?;
+    let input = format!(in alloc; "{name}.input")?;
+    let plan = format!(in alloc; "{name}.plan")?;
+    run(
+        rt,
+        &whole,
+        &map,
+        input.as_str(),
+        plan.as_str(),
+        steps,
+        shows,
+    )
+}
+
+fn module_of(rt: &HostRuntime, name: &str) -> Result<Module>
+    ensures { IfOk result (λ whole. IsTargetModule whole.content) }
+{
+    let text = taken(rt, name)?;
+    let Ok(raw) = read_rewritten(rt.alloc(), &text) else {
         bail!("the module has a fault");
     };
-    let whole = typed_rewritten(alloc, raw)?;
-    let Ok(input) = read_input(alloc, &numbers) else {
-        bail!("the input has a fault");
-    };
-    let Ok(plan) = Plan::read(alloc, &lines) else {
-        bail!("the plan has a fault");
-    };
-    run(rt, &whole, &input, &plan, steps, shows)
+    Ok(typed_rewritten(rt.alloc(), raw)?)
 }
 
 fn run(
     rt: &HostRuntime,
     whole: &Module,
-    input: &[i64],
-    plan: &Plan,
+    map: &[u8],
+    input: &str,
+    plan: &str,
     steps: u64,
     shows: Shows,
 ) -> Result<()>
     requires { IsTargetModule whole.now.content }
 {
     let alloc = rt.alloc();
-    let layouts = Layouts::of(alloc, whole)?;
-    let map = write(alloc, whole, &layouts)?;
+    let numbers = taken(rt, input)?;
+    let lines = taken(rt, plan)?;
+    let Ok(input) = read_input(alloc, &numbers) else {
+        bail!("the input has a fault");
+    };
+    let Ok(plan) = Plan::read(alloc, &lines) else {
+        bail!("the plan has a fault");
+    };
     let ran = run_any(
         alloc,
         whole,
-        &map,
-        input,
-        plan,
+        map,
+        &input,
+        &plan,
         steps,
         shows,
         &mut OutSink::new(rt),

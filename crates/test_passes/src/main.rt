@@ -1,5 +1,5 @@
-//! Puts polls and bases into the modules of texts, or rewrites them with statepoints, and judges files of cases: source
-//! modules with the texts of what must come of them.
+//! Puts polls and bases into the modules of texts, rewrites them with statepoints or simplifies them, and judges files of cases:
+//! source modules with the texts of what must come of them.
 #![tactic(auto)]
 
 mod cases;
@@ -27,7 +27,7 @@ use texts::{count_of, source_of};
 use tool_io::{DiskFiles, Files};
 
 const USAGE: &str =
-    "usage: test_passes typed|reached|polls|bases|rewritten FILE, or test_passes judge FILE..";
+    "usage: test_passes typed|reached|polls|bases|rewritten|simplified FILE, or test_passes judge FILE..";
 
 /// How a run ends.
 #[derive(Clone, Copy)]

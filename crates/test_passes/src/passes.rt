@@ -1,4 +1,5 @@
-//! The passes: unreached blocks are dropped, polls are placed, bases and checks are put in; or the whole rewriting.
+//! The passes: unreached blocks are dropped, polls are placed, bases and checks are put in; or the whole rewriting, or the simplifying
+//! of a source module.
 
 ghost use Rattle.std.specs.Prelude.{◌≡◌, length, IfOk};
 ghost use Rattle.std.specs.List.{All};
@@ -8,6 +9,7 @@ ghost use Rattle.poll_place.specs.Ready.{IsReady};
 use base_infer::insert;
 use ir_ast::{Func, Module};
 use ir_cfg::drop_unreachable;
+use ir_simplify::simplify;
 use poll_place::{place, sources_are_ready};
 use sp_ids::Memory;
 use sp_rewrite::{RewriteFault, rewrite};
@@ -21,6 +23,7 @@ pub(crate) enum Pass {
     Polls,
     Bases,
     Rewriting,
+    Simplifying,
 }
 
 /// The pass of this word.
@@ -31,6 +34,7 @@ pub(crate) fn pass_of(word: &str) -> Option<Pass> {
         "polls" => Some(Pass::Polls),
         "bases" => Some(Pass::Bases),
         "rewritten" => Some(Pass::Rewriting),
+        "simplified" => Some(Pass::Simplifying),
         _ => None,
     }
 }
@@ -53,6 +57,7 @@ pub(crate) fn after(alloc: Global, pass: Pass, source: Module) -> Result<Module,
         Pass::Polls => with_polls(alloc, source)?,
         Pass::Bases => with_bases(alloc, source)?,
         Pass::Rewriting => rewrite(alloc, source)?.into_module(),
+        Pass::Simplifying => simplify(alloc, source)?,
     })
 }
 

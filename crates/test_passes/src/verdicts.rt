@@ -3,8 +3,8 @@
 use crate::cases::{Case, Expected};
 use crate::differences::{Difference, differences};
 use crate::passes::why;
-use crate::texts::{Refused, prints, rewritten_of};
-use ir_ast::Module;
+use crate::texts::{Refused, prints, rewritten_of, source_of};
+use ir_ast::{Form, Module};
 use sp_ids::Memory;
 use sp_rewrite::RewriteFault;
 use std::alloc::{AllocError, Global};
@@ -13,7 +13,7 @@ use std::io;
 /// What becomes of an expected text.
 #[derive(Drop)]
 pub(crate) enum Verdict {
-    /// The text stands for a module that prints it, and at these places the module that came isn't that one.
+    /// The text stands for a module, which prints it if it is a rewritten one, and at these places the module that came isn't that one.
     Compared(Vec<Difference>),
     /// The module of the expected text is another text when it is printed.
     PrintsOtherwise,
@@ -49,6 +49,12 @@ pub(crate) fn judged(alloc: Global, made: &Module, text: &[u8]) -> Verdict {
 }
 
 fn compared(alloc: Global, made: &Module, text: &[u8]) -> Result<Verdict, Verdict> {
+    if made.form() == Form::Source {
+        return match source_of(alloc, text) {
+            Ok(expected) => Ok(Verdict::Compared(differences(alloc, made, &expected)?)),
+            Err(refused) => Err(Verdict::NoModule(refused)),
+        };
+    }
     let expected = match rewritten_of(alloc, text) {
         Ok(expected) => expected,
         Err(refused) => return Err(Verdict::NoModule(refused)),

@@ -2,5 +2,4 @@ pub mod BaseLemmas
 pub mod LineLemmas
 pub mod NameLemmas
 mod Samples
-pub mod StandLemmas
 pub mod ValueLemmas

@@ -11,5 +11,4 @@ mod values;
 
 pub use asked::{Functions, Objects};
 pub use deopts::{Shown, deopt_line};
-pub use heaps::Standing;
 pub use lines::write_waiting;

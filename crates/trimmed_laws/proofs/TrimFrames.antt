@@ -1,8 +1,9 @@
 -- Frames of a run, and those of the run some of whose lines went: they are pairs.
-use Rattle.std.proofs.Common.{◌≡◌, ℕ, true, false, List, [], ◌∷◌, ◌++◌, length, map, take, drop, refl, sym, ap, subst, ◌∙◌}
+use Rattle.std.proofs.Common.{◌≡◌, ℕ, true, false, List, [], ◌∷◌, ◌++◌, length, map, drop, refl, sym, ap, subst, ◌∙◌}
 use Rattle.std.specs.Prelude.{Option}
 use Rattle.std.specs.List.{All}
 use Rattle.std.specs.Option.{option_map}
+use Rattle.std.proofs.lemmas.List.Elements.{All-drop}
 use Rattle.ir_ast.specs.declared.ops.Op.{Op}
 use Rattle.ir_ast.specs.declared.ops.Op.TheVariants as ops
 use Rattle.ir_ast.specs.declared.ops.Operand.{Operand}
@@ -10,12 +11,13 @@ use Rattle.ir_ast.specs.Layouts.{ObjectLayout}
 use Rattle.ir_ast.specs.Objects.{Datum}
 use Rattle.ir_ast.specs.Operands.{operands_of}
 use Rattle.ir_ast.specs.Ops.{is_member}
-use Rattle.object_meaning.specs.Frames.{answered, answered_by, entered, group_length, member_write, regrouped}
+use Rattle.object_meaning.specs.Frames.{answered, answered_by, entered, member_write, regrouped}
 use Rattle.object_meaning.specs.Lines.{Line}
 use Rattle.object_meaning.specs.Registers.{put, put_all, value}
 use Rattle.object_meaning.specs.States.{Frame, Setting}
 use Rattle.renaming_laws.specs.Renamed.{Takes}
-use Rattle.renaming_laws.proofs.ListLaws.{all_dropped, before, behind, drop_behind, take_before}
+use Rattle.renaming_laws.proofs.ListLaws.{before, behind}
+use Rattle.renaming_laws.proofs.CallLaws.{regrouped_is, behind_group}
 use Rattle.list_laws.proofs.Places.{drop_map}
 use Rattle.trimmed_laws.specs.Groups.{Computes, Group, GroupGives, IsRegrouped, behind_members, lines_in, lines_now, no_more}
 use Rattle.trimmed_laws.specs.Trims.{Agree, IsStaying, ReadSame, Trim, calls_of, now_operand, starts, trimmed_line}
@@ -74,20 +76,6 @@ module _ (layouts : List ObjectLayout) (trims : ℕ → Trim) where
 abbrev pub Enters : (ℕ → Trim) → ℕ → ℕ → Type 0
 Enters trims func count = Takes (trims func).renaming count
 
--- a frame behind the lines of a group
-abbrev behind_group : Frame → List Operand → List Line → Datum → Frame
-behind_group frame entries rest answer = record frame {
-  rest = behind (tested is_member) rest;
-  registers = put_all (map (member_write frame.registers entries answer) (before (tested is_member) rest)) frame.registers;
-}
-
-regrouped_is : (frame : Frame) (entries : List Operand) (rest : List Line) (answer : Datum) → regrouped frame entries rest answer ≡ behind_group frame entries rest answer
-regrouped_is frame entries rest answer =
-    ap (λ lines. record frame { rest = lines; registers = put_all (map (member_write frame.registers entries answer) (take (group_length rest) rest)) frame.registers })
-    (drop_behind (tested is_member) rest)
-    ∙ ap (λ members. record frame { rest = behind (tested is_member) rest; registers = put_all (map (member_write frame.registers entries answer) members) frame.registers })
-    (take_before (tested is_member) rest)
-
 -- behind the members of a group
 regrouped_front : (frame : Frame) (entries : List Operand) (members rest : List Line) (answer : Datum) → All (λ line. is_member line.inst.op ≡ true) members → starts is_member rest ≡ false
     → regrouped frame entries (members ++ rest) answer ≡ record frame { rest = rest; registers = put_all (map (member_write frame.registers entries answer) members) frame.registers }
@@ -128,8 +116,8 @@ module _ (trims : ℕ → Trim) (one : Setting) (lines : ℕ → ℕ → List Li
       let trim = trims frame.func in
       rw (drop_map (now_operand trim) (length types) line.inst.operands)
       (regrouped_runs (at_line frame line rest) rest others (trimmed_line trim name line ∷ others) now (drop (length types) line.inst.operands) answer kept.further kept.kept
-      (all_dropped (Numbered trim) (length types) line.inst.operands (of_line (Numbered trim) line.inst kept.of.operands))
-      (all_dropped (λ (o : Operand). value frame.registers (trim.stands o) ≡ value frame.registers o) (length types) line.inst.operands
+      (All-drop (Numbered trim) (length types) line.inst.operands (of_line (Numbered trim) line.inst kept.of.operands))
+      (All-drop (λ (o : Operand). value frame.registers (trim.stands o) ≡ value frame.registers o) (length types) line.inst.operands
       (of_line (λ (o : Operand). value frame.registers (trim.stands o) ≡ value frame.registers o) line.inst kept.reads)))
   answered_runs frame line name rest others now answer kept op =
       runs one.layouts trims (record frame { rest = rest; registers = put line.to answer frame.registers }) others (put (option_map (trims frame.func).renaming.number line.to) answer now)

@@ -3,6 +3,7 @@ use Rattle.std.proofs.Common.{◌≡◌, ◌==◌, ℕ, Bool, true, false, if◌
 use Rattle.std.specs.Prelude.{Option, Some, None}
 use Rattle.std.specs.List.{All, position}
 use Rattle.std.specs.Option.{option_map, option_map_or}
+use Rattle.std.proofs.lemmas.List.Elements.{All-head, All-tail}
 use Rattle.ir_ast.specs.declared.types.Ty.{Ty}
 use Rattle.ir_ast.specs.declared.ops.Callee.{Callee}
 use Rattle.ir_ast.specs.declared.ops.Op.{Op}
@@ -16,7 +17,7 @@ use Rattle.object_meaning.specs.Jumps.{incoming, phi_write}
 use Rattle.object_meaning.specs.Lines.{Line}
 use Rattle.object_meaning.specs.Registers.{nothing, operand, put, put_all}
 use Rattle.renaming_laws.specs.Renamed.{Renaming}
-use Rattle.renaming_laws.proofs.ListLaws.{all_first, all_rest, before, behind}
+use Rattle.renaming_laws.proofs.ListLaws.{before, behind}
 use Rattle.trimmed_laws.specs.Trims.{Agree, IsGone, IsTrim, LiteralsStay, ReadSame, Trim, now_operand, starts, trimmed_line}
 use Rattle.trimmed_laws.specs.Trimmed.{PhiReads, Trimmed, goes, no_lines, regroups, stays}
 use Rattle.trimmed_laws.proofs.TrimRegisters.{Numbered, of_line, operand_kept, put_kept, put_unkept, standing_kept}
@@ -37,12 +38,12 @@ all_behind test (line ∷ lines) none = rw none refl
 pub front_before : (test : Op → Bool) (lines rest : List Line) → All (λ line. test line.inst.op ≡ true) lines → starts test rest ≡ false → before (tested test) (lines ++ rest) ≡ lines
 front_before test [] rest all none = no_front test rest none
 front_before test (line ∷ lines) rest all none =
-    rw (all_first (λ (l : Line). test l.inst.op ≡ true) line lines all) (ap (λ (ls : List Line). line ∷ ls) (front_before test lines rest (all_rest (λ (l : Line). test l.inst.op ≡ true) line lines all) none))
+    rw (All-head (λ (l : Line). test l.inst.op ≡ true) line lines all) (ap (λ (ls : List Line). line ∷ ls) (front_before test lines rest (All-tail (λ (l : Line). test l.inst.op ≡ true) line lines all) none))
 
 pub front_behind : (test : Op → Bool) (lines rest : List Line) → All (λ line. test line.inst.op ≡ true) lines → starts test rest ≡ false → behind (tested test) (lines ++ rest) ≡ rest
 front_behind test [] rest all none = all_behind test rest none
 front_behind test (line ∷ lines) rest all none =
-    rw (all_first (λ (l : Line). test l.inst.op ≡ true) line lines all) (front_behind test lines rest (all_rest (λ (l : Line). test l.inst.op ≡ true) line lines all) none)
+    rw (All-head (λ (l : Line). test l.inst.op ≡ true) line lines all) (front_behind test lines rest (All-tail (λ (l : Line). test l.inst.op ≡ true) line lines all) none)
 
 module _ (layouts : List ObjectLayout) (calls : ℕ → Renaming) (trim : Trim) where
   -- what follows the lines of a class, of which none that stays comes to the front where others go
@@ -93,8 +94,8 @@ module _ (layouts : List ObjectLayout) (calls : ℕ → Renaming) (trim : Trim) 
             → Agree trim (put_all (map (phi_write from registers) (if b then line ∷ before (tested is_phi) rest else [])) old)
             (put_all (map (phi_write from now) (if b then trimmed_line trim name line ∷ before (tested is_phi) others else [])) new)
         by true later reads old new both =
-            rw (incoming_kept name line (of_line (Numbered trim) line.inst of.operands) (all_first Reads line (before (tested is_phi) rest) reads))
-            (later (all_rest Reads line (before (tested is_phi) rest) reads)
+            rw (incoming_kept name line (of_line (Numbered trim) line.inst of.operands) (All-head Reads line (before (tested is_phi) rest) reads))
+            (later (All-tail Reads line (before (tested is_phi) rest) reads)
             (put line.to (incoming from registers line.inst) old) (put (option_map trim.renaming.number line.to) (incoming from registers line.inst) new)
             (put_kept line.to (incoming from registers line.inst) law of.result both))
         by false later reads old new both = both
@@ -104,7 +105,7 @@ module _ (layouts : List ObjectLayout) (calls : ℕ → Renaming) (trim : Trim) 
             → Agree trim (put_all (map (phi_write from registers) (if b then line ∷ before (tested is_phi) rest else [])) old)
             (put_all (map (phi_write from now) (before (tested is_phi) others)) new)
         by true is later reads old new both =
-            later (all_rest Reads line (before (tested is_phi) rest) reads) (put line.to (incoming from registers line.inst) old) new
+            later (All-tail Reads line (before (tested is_phi) rest) reads) (put line.to (incoming from registers line.inst) old) new
             (put_unkept line.to (incoming from registers line.inst) gone.unkept both)
         by false is later reads old new both = rw (no_front is_phi others (gone.phis is)) both
     phis_kept _ _ (regroups group is further) = λ reads old new both. rw (ap is_phi is.op, ap is_phi is.now_op) both

@@ -2,6 +2,7 @@
 use Rattle.std.proofs.Common.{◌≡◌, ℕ, suc, ◌+◌, List, [], ◌∷◌, ◌++◌, map, refl, sym, ap, subst, ◌∙◌, append-nil, arith}
 use Rattle.std.specs.Prelude.{ℤ, ◌↔◌, codes, decimal}
 use Rattle.std.specs.List.{All, flat_map}
+use Rattle.std.proofs.lemmas.List.Elements.{All-head, All-tail}
 use Rattle.sp_ids.specs.declared.ends.End.{End}
 use Rattle.sp_ids.specs.declared.ends.End.TheVariants as ended
 use Rattle.ir_ast.specs.declared.types.Ty.{Ty}
@@ -18,7 +19,6 @@ use Rattle.object_meaning.specs.Texts.{bundle_line, bundle_lines, bundle_of, clo
 use Rattle.object_meaning.specs.Traces.{Access, Event, traced}
 use Rattle.object_meaning.proofs.RunLaws.{reaches_more}
 use Rattle.object_meaning.proofs.SimulationLaws.{FollowsIn, LeadsOn, LeadsOut, Leads, SameLast, accessing, gives_here, gives_there, goes_on as steps_after, happens}
-use Rattle.renaming_laws.proofs.ListLaws.{all_first, all_rest}
 use Rattle.trimmed_laws.specs.Statements.{TrimmedGiveTheSame}
 use Rattle.trimmed_laws.specs.Groups.{lines_in, lines_now}
 use Rattle.trimmed_laws.specs.Trims.{Agree, Trim, now_operand, trimmed_line}
@@ -46,8 +46,8 @@ module _ {trim : Trim} {registers now : List Datum} (kept : Agree trim registers
       ≡ flat_map (λ (each : Entry). codes " " ++ shown each.0 (value registers each.1)) bundle
   shown_kept [] inside same = refl
   shown_kept (entry ∷ bundle) inside same =
-      rw (value_now kept entry.1 (all_first EntryNumbered entry bundle inside) (all_first EntryReads entry bundle same))
-      (ap (λ rest. (codes " " ++ shown entry.0 (value registers entry.1)) ++ rest) (shown_kept bundle (all_rest EntryNumbered entry bundle inside) (all_rest EntryReads entry bundle same)))
+      rw (value_now kept entry.1 (All-head EntryNumbered entry bundle inside) (All-head EntryReads entry bundle same))
+      (ap (λ rest. (codes " " ++ shown entry.0 (value registers entry.1)) ++ rest) (shown_kept bundle (All-tail EntryNumbered entry bundle inside) (All-tail EntryReads entry bundle same)))
 
 abbrev line_of : ℕ → List ℕ → List ℕ → List (List ℕ)
 line_of place name text = (codes "! " ++ decimal place ++ codes " @" ++ name ++ text ++ newline) ∷ []

@@ -3,9 +3,9 @@ use Rattle.std.proofs.Common.{◌≡◌, ℕ, zero, suc, ◌-◌, ◌<◌, ◌�
 use Rattle.std.specs.Prelude.{Option, Some, None}
 use Rattle.std.specs.List.{All}
 use Rattle.std.specs.Option.{option_map, IfSome}
-use Rattle.std.proofs.lemmas.List.{get_or-set_same, get_or-set_other, length-set, get_or_append_left, length-append, length-replicate}
+use Rattle.std.proofs.lemmas.List.{get_or-set_same, get_or-set_other, length-set, get_or_append_left}
 use Rattle.std.proofs.lemmas.Bool.{cases_eq, cases_lt, false≢true}
-use Rattle.std.proofs.Math.Seq.{get_or-append_right}
+use Rattle.std.proofs.lemmas.List.Elements.{All-head, All-tail}
 use Rattle.ir_ast.specs.declared.ops.Operand.{Operand}
 use Rattle.ir_ast.specs.declared.ops.Operand.TheVariants.{Value, Int, Null, Fun}
 use Rattle.ir_ast.specs.Insts.{Instruction}
@@ -14,7 +14,7 @@ use Rattle.ir_ast.specs.Operands.{operands_of}
 use Rattle.object_meaning.specs.Registers.{nothing, operand, put, value}
 use Rattle.list_laws.proofs.Contents.{all_back, all_front, all_under}
 use Rattle.renaming_laws.specs.Renamed.{renamed}
-use Rattle.renaming_laws.proofs.ListLaws.{all_first, all_rest}
+use Rattle.renaming_laws.proofs.RegisterLaws.{behind_read, filled_length}
 use Rattle.known_values.specs.Meanings.{register as read}
 use Rattle.trimmed_laws.specs.Trims.{Agree, HasNumber, IsNumbered, IsTrim, ReadSame, Trim, now_operand}
 
@@ -73,8 +73,8 @@ module _ {trim : Trim} {registers now : List Datum} (kept : Agree trim registers
   pub standing_kept : (operands : List Operand) (place : ℕ) → All (Numbered trim) operands
       → operand now (map (now_operand trim) operands) place ≡ operand registers (map trim.stands operands) place
   standing_kept [] place inside = refl
-  standing_kept (each ∷ operands) zero inside = value_kept (trim.stands each) (all_first (Numbered trim) each operands inside) kept
-  standing_kept (each ∷ operands) (suc place) inside = standing_kept operands place (all_rest (Numbered trim) each operands inside)
+  standing_kept (each ∷ operands) zero inside = value_kept (trim.stands each) (All-head (Numbered trim) each operands inside) kept
+  standing_kept (each ∷ operands) (suc place) inside = standing_kept operands place (All-tail (Numbered trim) each operands inside)
 
   pub value_now : (each : Operand) → Numbered trim each → value registers (trim.stands each) ≡ value registers each → value now (now_operand trim each) ≡ value registers each
   value_now each has same = value_kept (trim.stands each) has kept ∙ same
@@ -83,18 +83,18 @@ module _ {trim : Trim} {registers now : List Datum} (kept : Agree trim registers
   pub operand_kept : (operands : List Operand) (place : ℕ) → All (Numbered trim) operands → ReadSame trim.stands registers operands
       → operand now (map (now_operand trim) operands) place ≡ operand registers operands place
   operand_kept [] place inside same = refl
-  operand_kept (each ∷ operands) zero inside same = value_now each (all_first (Numbered trim) each operands inside) (all_first (λ (o : Operand). value registers (trim.stands o) ≡ value registers o) each operands same)
+  operand_kept (each ∷ operands) zero inside same = value_now each (All-head (Numbered trim) each operands inside) (All-head (λ (o : Operand). value registers (trim.stands o) ≡ value registers o) each operands same)
   operand_kept (each ∷ operands) (suc place) inside same =
-      operand_kept operands place (all_rest (Numbered trim) each operands inside) (all_rest (λ (o : Operand). value registers (trim.stands o) ≡ value registers o) each operands same)
+      operand_kept operands place (All-tail (Numbered trim) each operands inside) (All-tail (λ (o : Operand). value registers (trim.stands o) ≡ value registers o) each operands same)
 
   pub values_kept : (operands : List Operand) → All (Numbered trim) operands → ReadSame trim.stands registers operands
       → map (value now) (map (now_operand trim) operands) ≡ map (value registers) operands
   values_kept [] inside same = refl
   values_kept (each ∷ operands) inside same =
       ap (λ first. first ∷ map (value now) (map (now_operand trim) operands))
-      (value_now each (all_first (Numbered trim) each operands inside) (all_first (λ (o : Operand). value registers (trim.stands o) ≡ value registers o) each operands same))
+      (value_now each (All-head (Numbered trim) each operands inside) (All-head (λ (o : Operand). value registers (trim.stands o) ≡ value registers o) each operands same))
       ∙ ap (λ rest. value registers each ∷ rest)
-      (values_kept operands (all_rest (Numbered trim) each operands inside) (all_rest (λ (o : Operand). value registers (trim.stands o) ≡ value registers o) each operands same))
+      (values_kept operands (All-tail (Numbered trim) each operands inside) (All-tail (λ (o : Operand). value registers (trim.stands o) ≡ value registers o) each operands same))
 
 -- ---- operands of a line and of its bundle
 
@@ -106,21 +106,6 @@ module _ (P : Operand → Type 0) (inst : Instruction) (all : All P (operands_of
   of_bundle = all_under (λ entry. entry.1) P inst.bundle (all_back P inst.operands (map (λ entry. entry.1) inst.bundle) all)
 
 -- ---- a new frame
-
-blank_read : (count register : ℕ) → read (replicate count nothing) register ≡ nothing
-blank_read zero register = refl
-blank_read (suc count) zero = refl
-blank_read (suc count) (suc register) = blank_read count register
-
-behind_read : (arguments : List Datum) (count register : ℕ) → length arguments ≤ register → read (arguments ++ replicate count nothing) register ≡ nothing
-behind_read arguments count register past =
-    get_or-append_right arguments (replicate count nothing) register nothing past ∙ blank_read count (register - length arguments)
-
-filled_length : (arguments : List Datum) (count : ℕ) → length arguments ≤ count → length (arguments ++ replicate (count - length arguments) nothing) ≡ count
-filled_length arguments count few =
-    let whole = length-append arguments (replicate (count - length arguments) nothing) in
-    let back = length-replicate (count - length arguments) nothing in
-    omega arith
 
 -- an argument is kept under its number
 argument_has : {trim : Trim} → IsTrim trim → (register : ℕ) → register < trim.renaming.arguments → HasNumber trim register

@@ -3,6 +3,7 @@ use Rattle.std.proofs.Common.{◌≡◌, ℕ, zero, suc, ◌+◌, Bool, true, fa
 use Rattle.std.specs.Prelude.{Option, Result, Ok, Err}
 use Rattle.std.specs.List.{All}
 use Rattle.std.specs.Option.{option_map}
+use Rattle.std.proofs.lemmas.List.Elements.{All-drop, All-take}
 use Rattle.sp_ids.specs.declared.ends.End.TheVariants as ended
 use Rattle.sp_ids.specs.declared.ends.Trap.{Trap}
 use Rattle.sp_ids.specs.declared.ends.Trap.TheVariants as traps
@@ -28,7 +29,7 @@ use Rattle.object_meaning.specs.States.{Frame, State, Setting}
 use Rattle.object_meaning.specs.Steps.{accesses, acts, loading, returned, settled as settled_line, skipped, steps_at, storing}
 use Rattle.object_meaning.specs.Traces.{access_of, accesses_at, event_of, events_at, reading, writing}
 use Rattle.renaming_laws.specs.Renamed.{ArgumentsFit, CalleeTakes}
-use Rattle.renaming_laws.proofs.ListLaws.{all_dropped, all_taken, before, behind, take_before}
+use Rattle.renaming_laws.proofs.ListLaws.{before, behind, take_before}
 use Rattle.renaming_laws.proofs.StepLaws.{arrived_is}
 use Rattle.list_laws.proofs.Places.{drop_map}
 use Rattle.known_values.specs.Onward.{LeadsTo, by_br, by_condition, by_switch, computes}
@@ -225,8 +226,8 @@ module _ (trims : ℕ → Trim) (one : Setting) (lines : ℕ → ℕ → List Li
           paired (record state { running = regrouped (at_line state.running line rest) (drop count line.inst.operands) rest answer })
           (regrouped frame_now (map (now_operand trim) (drop count line.inst.operands)) others answer) below tasks
           (regrouped_runs trims one lines front registers names law (at_line state.running line rest) rest others (line_now ∷ others) now (drop count line.inst.operands) answer
-          further kept (all_dropped (Numbered trim) count line.inst.operands numbered)
-          (all_dropped (λ (o : Operand). value state.running.registers (trim.stands o) ≡ value state.running.registers o) count line.inst.operands same)) stack all
+          further kept (All-drop (Numbered trim) count line.inst.operands numbered)
+          (All-drop (λ (o : Operand). value state.running.registers (trim.stands o) ≡ value state.running.registers o) count line.inst.operands same)) stack all
 
       fits_as : (op : Op) → line.inst.op ≡ op → ArgumentsFit (calls_of trims) op line.inst.operands
       fits_as op is = subst (λ (o : Op). ArgumentsFit (calls_of trims) o line.inst.operands) is of.arguments
@@ -243,8 +244,8 @@ module _ (trims : ℕ → Trim) (one : Setting) (lines : ℕ → ℕ → List Li
       acts_same (ops.Statepoint id callee types) is =
           rw (drop_map (now_operand trim) (length types) line.inst.operands, take_map (now_operand trim) (length types) line.inst.operands)
           (calls_same (grouped here (drop (length types) line.inst.operands) rest) (grouped there (map (now_operand trim) (drop (length types) line.inst.operands)) others) (grouped_goes (length types))
-          (take (length types) line.inst.operands) (all_taken (Numbered trim) (length types) line.inst.operands numbered)
-          (all_taken (λ (o : Operand). value state.running.registers (trim.stands o) ≡ value state.running.registers o) (length types) line.inst.operands same) callee
+          (take (length types) line.inst.operands) (All-take (Numbered trim) (length types) line.inst.operands numbered)
+          (All-take (λ (o : Operand). value state.running.registers (trim.stands o) ≡ value state.running.registers o) (length types) line.inst.operands same) callee
           (fits_as (ops.Statepoint id callee types) is) (literals_as (ops.Statepoint id callee types) is))
       acts_same ops.Phi is = both_go _ _ skipped_goes
       acts_same ops.GcResult is = both_go _ _ skipped_goes
@@ -364,7 +365,7 @@ module _ (trims : ℕ → Trim) (one : Setting) (lines : ℕ → ℕ → List Li
     all_read = reads.operands group.statepoint behind_it refl (ap (λ (o : Op). is_phi o || is_member o) is.op)
 
     read_passed : All Reads (take count operands)
-    read_passed = all_taken Reads count operands (of_line Reads group.statepoint.inst all_read)
+    read_passed = All-take Reads count operands (of_line Reads group.statepoint.inst all_read)
 
     group_kept : GroupKept one.layouts trims state.running group now
     group_kept = record { is = is; further = further; gives = gives; kept = kept; reads = of_bundle Reads group.statepoint.inst all_read }

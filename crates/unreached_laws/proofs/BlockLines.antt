@@ -6,7 +6,7 @@ use Rattle.std.specs.Option.{option_map, IfSome}
 use Rattle.std.proofs.lemmas.Bool.{false≢true}
 use Rattle.std.proofs.lemmas.Bool.Decides.{nat_tests}
 use Rattle.std.proofs.lemmas.List.{length-append, length-map, length-replicate, map-append}
-use Rattle.std.proofs.lemmas.List.Elements.{All-append, All-cons, All-nil}
+use Rattle.std.proofs.lemmas.List.Elements.{All-append, All-cons, All-nil, All-head, All-tail}
 use Rattle.std.proofs.lemmas.Option.{none-some, same_Some}
 use Rattle.list_laws.proofs.Places.{get_front, get_past, get_replicate}
 use Rattle.sp_ids.specs.declared.ids.BlockId.{BlockId}
@@ -21,7 +21,6 @@ use Rattle.ir_cfg.proofs.KeepsPlaces.{before_mono, before_past_falses, before_pa
 use Rattle.ir_cfg.proofs.KeepsLines.{labels_left, operands_left}
 use Rattle.ir_cfg.proofs.KeepsValues.{filter_mapped, named}
 use Rattle.object_meaning.specs.Lines.{Line, after_all, first_registers, following, lines_from, numbered, poll, polls_before, retreats}
-use Rattle.renaming_laws.proofs.ListLaws.{all_first, all_rest}
 use Rattle.unreached_laws.proofs.RegisterLaws.{OperandStays, before_none}
 use Rattle.unreached_laws.proofs.Keepings.{ArgumentsFit, Keeping, LineStays, is_grouped, line_kept, numbers}
 
@@ -80,11 +79,11 @@ module _ (keeping : Keeping) (block : ℕ) (marked : Marked keeping.blocks block
       → list_any (λ label. nat_le label.0 new_block) (map (label_kept K) labels) ≡ list_any (λ label. nat_le label.0 block) labels
   any_same [] all = refl
   any_same (label ∷ labels) all =
-      let here : Marked keeping.blocks label.0 = all_first (λ (each : BlockId). Marked keeping.blocks each.0) label labels all in
+      let here : Marked keeping.blocks label.0 = All-head (λ (each : BlockId). Marked keeping.blocks each.0) label labels all in
       rw (
         number_of_marked keeping.blocks label.0 here,
         same_order keeping.blocks label.0 block here marked,
-        any_same labels (all_rest (λ (each : BlockId). Marked keeping.blocks each.0) label labels all),
+        any_same labels (All-tail (λ (each : BlockId). Marked keeping.blocks each.0) label labels all),
       ) refl
 
   ends_same : (op : Op) (labels : List BlockId) → All (λ (label : BlockId). Marked keeping.blocks label.0) (labels_left K op labels)
@@ -167,11 +166,11 @@ module _ (keepings : ℕ → Keeping) (func block : ℕ) (marked : Marked (keepi
       ≡ map (line_kept (keepings func)) (lines_from block next insts)
   lines_same [] next all results = refl
   lines_same (inst ∷ insts) next all results =
-      let first = all_first (InstStays keepings func) inst insts all in
+      let first = All-head (InstStays keepings func) inst insts all in
       let polls = polls_same (keepings func) block marked inst first.labels in
       let line = numbered_same (keepings func) block marked inst next in
       let goes_on = following_same (keepings func) block marked inst next (first_result (keepings func).values next inst insts results) in
-      let rest = lines_same insts (following next inst) (all_rest (InstStays keepings func) inst insts all) (later_results (keepings func).values next inst insts results) in
+      let rest = lines_same insts (following next inst) (All-tail (InstStays keepings func) inst insts all) (later_results (keepings func).values next inst insts results) in
       ap (λ (front : List Line). front ++ numbered (marks_before (keepings func).values next) (inst_kept (numbers (keepings func)) inst)
       ∷ lines_from (marks_before (keepings func).blocks block) (following (marks_before (keepings func).values next) (inst_kept (numbers (keepings func)) inst)) (map (inst_kept (numbers (keepings func))) insts)) polls
       ∙ (ap (λ (one : Line). map L (polls_before block inst) ++ one
@@ -207,8 +206,8 @@ module _ (keepings : ℕ → Keeping) (func block : ℕ) (marked : Marked (keepi
       → All (LineStays keepings func) (lines_from block next insts)
   lines_stay [] next all results = All-nil (LineStays keepings func)
   lines_stay (inst ∷ insts) next all results =
-      let first = numbered_stays inst next (all_first (InstStays keepings func) inst insts all) (first_result (keepings func).values next inst insts results) in
-      let rest = lines_stay insts (following next inst) (all_rest (InstStays keepings func) inst insts all) (later_results (keepings func).values next inst insts results) in
+      let first = numbered_stays inst next (All-head (InstStays keepings func) inst insts all) (first_result (keepings func).values next inst insts results) in
+      let rest = lines_stay insts (following next inst) (All-tail (InstStays keepings func) inst insts all) (later_results (keepings func).values next inst insts results) in
       All-append (LineStays keepings func) (polls_before block inst) (numbered next inst ∷ lines_from block (following next inst) insts) (polls_stay inst)
       (All-cons (LineStays keepings func) (numbered next inst) (lines_from block (following next inst) insts) first rest)
 

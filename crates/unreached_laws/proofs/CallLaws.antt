@@ -5,7 +5,7 @@ use Rattle.std.specs.Int.{w64, cast_unsigned}
 use Rattle.std.specs.List.{All, sum_by}
 use Rattle.std.specs.Option.{option_map}
 use Rattle.std.proofs.lemmas.List.{length-map, map-append, map-set}
-use Rattle.std.proofs.lemmas.List.Elements.{All-append, All-cons, All-nil, All-set}
+use Rattle.std.proofs.lemmas.List.Elements.{All-append, All-cons, All-nil, All-set, All-head, All-tail}
 use Rattle.std.proofs.lemmas.Option.{slice_get-map}
 use Rattle.list_laws.proofs.Contents.{all_at}
 use Rattle.sp_ids.specs.Numbers.{signed}
@@ -27,7 +27,6 @@ use Rattle.object_meaning.specs.Registers.{nothing, number_in, operand, pointer_
 use Rattle.object_meaning.specs.States.{Frame, State, Setting}
 use Rattle.object_meaning.specs.Steps.{returned}
 use Rattle.object_meaning.specs.Tasks.{handed_over, started, task_ended, with_event}
-use Rattle.renaming_laws.proofs.ListLaws.{all_first, all_rest}
 use Rattle.unreached_laws.proofs.RegisterLaws.{OperandStays, function_same, operand_same, values_same}
 use Rattle.unreached_laws.proofs.Keepings.{CalleeTakes, Keeping, KeepsBlocks, Takes, numbers, with_lines}
 use Rattle.unreached_laws.proofs.Related.{EffectKept, FrameStays, Goes, Stays, TaskStays, both_end, both_go, both_print, image, image_of}
@@ -74,8 +73,8 @@ module _ (keepings : ℕ → Keeping) (one : Setting) (lines : ℕ → ℕ → L
       (record (I state) { running = image keepings frame; below = map (image keepings) below; task = 0; tasks = slice_set (I state).tasks 0 [] }) nothing
       (record {
         stays = record {
-          running = all_first (FrameStays keepings) frame below frames;
-          below = all_rest (FrameStays keepings) frame below frames;
+          running = All-head (FrameStays keepings) frame below frames;
+          below = All-tail (FrameStays keepings) frame below frames;
           tasks = All-set (TaskStays keepings) state.tasks 0 [] (All-nil (FrameStays keepings)) stays.tasks;
         };
         is = ap (λ tasks. record (I state) { running = image keepings frame; below = map (image keepings) below; task = 0; tasks = tasks })
@@ -97,7 +96,7 @@ module _ (keepings : ℕ → Keeping) (one : Setting) (lines : ℕ → ℕ → L
       both_go _ _
       (resumed_goes keepings (record state { running = caller; below = below }) (I (record state { running = caller; below = below })) answer
       (itself (record state { running = caller; below = below })
-      (record { running = all_first (FrameStays keepings) caller below frames; below = all_rest (FrameStays keepings) caller below frames; tasks = stays.tasks })))
+      (record { running = All-head (FrameStays keepings) caller below frames; below = All-tail (FrameStays keepings) caller below frames; tasks = stays.tasks })))
 
   -- ---- calls
 

@@ -5,7 +5,7 @@ use Rattle.std.specs.List.{All}
 use Rattle.std.specs.Option.{option_map, option_map_or}
 use Rattle.std.proofs.lemmas.Bool.{true≢false}
 use Rattle.std.proofs.lemmas.List.{map-append, map-set}
-use Rattle.std.proofs.lemmas.List.Elements.{All-append, All-cons, All-nil, All-set}
+use Rattle.std.proofs.lemmas.List.Elements.{All-append, All-cons, All-nil, All-set, All-head, All-tail}
 use Rattle.std.proofs.lemmas.Option.{slice_get-map}
 use Rattle.list_laws.proofs.Contents.{all_at}
 use Rattle.graph_search.specs.Paths.{Marked}
@@ -19,7 +19,7 @@ use Rattle.object_meaning.specs.Lines.{Line}
 use Rattle.object_meaning.specs.Registers.{nothing, put, put_all}
 use Rattle.object_meaning.specs.States.{Frame, State, Setting}
 use Rattle.object_meaning.specs.Tasks.{polled, switched, switched_to, with_event}
-use Rattle.renaming_laws.proofs.ListLaws.{all_first, all_rest, before, behind, drop_behind, take_before}
+use Rattle.renaming_laws.proofs.ListLaws.{before, behind, drop_behind, take_before}
 use Rattle.unreached_laws.proofs.RegisterLaws.{before_none, entered_kept, put_kept}
 use Rattle.unreached_laws.proofs.Keepings.{Keeping, KeepsBlocks, LineStays, Takes, is_grouped, line_kept, with_lines}
 use Rattle.unreached_laws.proofs.PhiLaws.{behind_kept, is_phi_line, phis_same}
@@ -36,7 +36,7 @@ behind_phis frame block lines = record frame {
 
 all_behind : (P : Line → Type 0) (test : Line → Bool) (lines : List Line) → All P lines → All P (behind test lines)
 all_behind P test [] all = all
-all_behind P test (line ∷ lines) all = by (test line) (all_behind P test lines (all_rest P line lines all))
+all_behind P test (line ∷ lines) all = by (test line) (all_behind P test lines (All-tail P line lines all))
   where
     by : (b : Bool) → All P (behind test lines) → All P (if b then behind test lines else line ∷ lines)
     by true rest = rest
@@ -72,15 +72,15 @@ module _ (keepings : ℕ → Keeping) where
       → answered_at (image keepings frame) (map (line_kept (keepings frame.func)) lines) answer ≡ image keepings (answered_at frame lines answer)
   lines_answered frame [] answer stay = refl
   lines_answered frame (call ∷ rest) answer stay =
-      let first = all_first (stay_of frame.func) call rest stay in
+      let first = All-head (stay_of frame.func) call rest stay in
       answer_same frame call rest answer first call.inst.op first.ungrouped
 
   lines_stay : (frame : Frame) (lines : List Line) (answer : Datum) → FrameStays keepings frame → All (LineStays keepings frame.func) lines
       → FrameStays keepings (answered_at frame lines answer)
   lines_stay frame [] answer stays stay = stays
   lines_stay frame (call ∷ rest) answer stays stay =
-      let first = all_first (stay_of frame.func) call rest stay in
-      answer_stays frame call rest answer stays (all_rest (stay_of frame.func) call rest stay) call.inst.op first.ungrouped
+      let first = All-head (stay_of frame.func) call rest stay in
+      answer_stays frame call rest answer stays (All-tail (stay_of frame.func) call rest stay) call.inst.op first.ungrouped
 
   -- the running frame, which waited, goes on with the answer
   pub resumed_goes : (state there : State) (answer : Datum) → Goes keepings state there → Goes keepings (resumed state answer) (resumed there answer)
@@ -118,8 +118,8 @@ module _ (keepings : ℕ → Keeping) where
       let frames = each (frame ∷ below) refl in
       record {
         stays = record {
-          running = all_first (FrameStays keepings) frame below frames;
-          below = all_rest (FrameStays keepings) frame below frames;
+          running = All-head (FrameStays keepings) frame below frames;
+          below = All-tail (FrameStays keepings) frame below frames;
           tasks = All-set (TaskStays keepings) (slice_set state.tasks state.task (state.running ∷ state.below)) to [] (All-nil (FrameStays keepings))
               (All-set (TaskStays keepings) state.tasks state.task (state.running ∷ state.below) (All-cons (FrameStays keepings) state.running state.below stays.running stays.below) stays.tasks);
         };

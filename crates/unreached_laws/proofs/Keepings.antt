@@ -4,6 +4,7 @@ use Rattle.std.specs.Prelude.{⊤, slice_get}
 use Rattle.std.specs.List.{All}
 use Rattle.std.specs.Option.{option_map, IfSome}
 use Rattle.std.proofs.lemmas.Bool.{true≢false}
+use Rattle.std.proofs.lemmas.List.Elements.{All-head, All-tail}
 use Rattle.sp_ids.specs.declared.ids.BlockId.{BlockId}
 use Rattle.graph_search.specs.Paths.{Marked}
 use Rattle.ir_ast.specs.declared.ops.Callee.{Callee}
@@ -19,7 +20,6 @@ use Rattle.object_meaning.specs.Calls.{function_in}
 use Rattle.object_meaning.specs.Jumps.{label_at}
 use Rattle.object_meaning.specs.Lines.{Line}
 use Rattle.object_meaning.specs.States.{Setting}
-use Rattle.renaming_laws.proofs.ListLaws.{all_first, all_rest}
 use Rattle.unreached_laws.proofs.RegisterLaws.{OperandStays, before_none}
 use Rattle.ir_cfg.proofs.KeepsUses.{plain_operands as left_of, plain_labels as labels_left_of}
 
@@ -116,11 +116,11 @@ module _ (keepings : ℕ → Keeping) (func : ℕ) (line : Line) (stays : LineSt
 pub leads_to : (blocks : List Bool) (labels : List BlockId) (place : ℕ) → Marked blocks 0 → All (λ (label : BlockId). Marked blocks label.0) labels
     → Marked blocks (label_at labels place)
 leads_to blocks [] place entry marked = entry
-leads_to blocks (label ∷ labels) zero entry marked = all_first (λ (each : BlockId). Marked blocks each.0) label labels marked
-leads_to blocks (label ∷ labels) (suc place) entry marked = leads_to blocks labels place entry (all_rest (λ (each : BlockId). Marked blocks each.0) label labels marked)
+leads_to blocks (label ∷ labels) zero entry marked = All-head (λ (each : BlockId). Marked blocks each.0) label labels marked
+leads_to blocks (label ∷ labels) (suc place) entry marked = leads_to blocks labels place entry (All-tail (λ (each : BlockId). Marked blocks each.0) label labels marked)
 
 pub leads_same : (keeping : Keeping) (labels : List BlockId) (place : ℕ) → All (λ (label : BlockId). Marked keeping.blocks label.0) labels
     → label_at (map (label_kept (numbers keeping)) labels) place ≡ marks_before keeping.blocks (label_at labels place)
 leads_same keeping [] place marked = sym (before_none keeping.blocks)
-leads_same keeping (label ∷ labels) zero marked = number_of_marked keeping.blocks label.0 (all_first (λ (each : BlockId). Marked keeping.blocks each.0) label labels marked)
-leads_same keeping (label ∷ labels) (suc place) marked = leads_same keeping labels place (all_rest (λ (each : BlockId). Marked keeping.blocks each.0) label labels marked)
+leads_same keeping (label ∷ labels) zero marked = number_of_marked keeping.blocks label.0 (All-head (λ (each : BlockId). Marked keeping.blocks each.0) label labels marked)
+leads_same keeping (label ∷ labels) (suc place) marked = leads_same keeping labels place (All-tail (λ (each : BlockId). Marked keeping.blocks each.0) label labels marked)

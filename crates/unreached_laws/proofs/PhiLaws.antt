@@ -6,6 +6,7 @@ use Rattle.std.specs.Option.{option_map, option_map_or}
 use Rattle.std.proofs.lemmas.Bool.{false≢true}
 use Rattle.std.proofs.lemmas.Bool.Decides.{nat_tests}
 use Rattle.std.proofs.lemmas.Option.{get_or_from_slice_get}
+use Rattle.std.proofs.lemmas.List.Elements.{All-head, All-tail}
 use Rattle.sp_ids.specs.declared.ids.BlockId.{BlockId}
 use Rattle.graph_search.specs.Paths.{Marked}
 use Rattle.ir_ast.specs.declared.ops.Op.{Op}
@@ -20,7 +21,7 @@ use Rattle.ir_cfg.proofs.KeepsUses.{mark_found}
 use Rattle.object_meaning.specs.Jumps.{incoming, phi_write}
 use Rattle.object_meaning.specs.Lines.{Line}
 use Rattle.object_meaning.specs.Registers.{nothing, operand, put, put_all}
-use Rattle.renaming_laws.proofs.ListLaws.{all_first, all_rest, before, behind}
+use Rattle.renaming_laws.proofs.ListLaws.{before, behind}
 use Rattle.unreached_laws.proofs.RegisterLaws.{OperandStays, operand_same, put_kept}
 use Rattle.unreached_laws.proofs.Keepings.{Keeping, LineStays, line_kept, numbers}
 
@@ -140,7 +141,7 @@ module _ (keeping : Keeping) (from : ℕ) (marked : Marked keeping.blocks from) 
           → taken (marks_before keeping.blocks from) now (map (label_kept K) (kept_of (marks_of labels) labels)) (drop 1 (map (operand_kept K) (kept_of (true ∷ marks_of labels) operands)))
           ≡ taken from registers labels (drop 1 operands)
       kept_rest [] stay rest = rest [] stay
-      kept_rest (each ∷ operands) stay rest = rest operands (all_rest (OperandStays keeping.values) each (kept_of (marks_of labels) operands) stay)
+      kept_rest (each ∷ operands) stay rest = rest operands (All-tail (OperandStays keeping.values) each (kept_of (marks_of labels) operands) stay)
 
       gone_rest : (operands : List Operand) → All (OperandStays keeping.values) (kept_of (false ∷ marks_of labels) operands) → TakenSame labels
           → taken (marks_before keeping.blocks from) now (map (label_kept K) (kept_of (marks_of labels) labels)) (map (operand_kept K) (kept_of (false ∷ marks_of labels) operands))
@@ -231,10 +232,10 @@ module _ (keepings : ℕ → Keeping) (func from : ℕ) (marked : Marked (keepin
   -- they take effect together
   pub phis_same : (lines : List Line) → All (LineStays keepings func) lines → Same lines
   phis_same [] stay = λ old. refl
-  phis_same (line ∷ lines) stay = by (is_phi_line line) refl (phis_same lines (all_rest (LineStays keepings func) line lines stay))
+  phis_same (line ∷ lines) stay = by (is_phi_line line) refl (phis_same lines (All-tail (LineStays keepings func) line lines stay))
     where
       by : (b : Bool) → is_phi_line line ≡ b → Same lines → (old : List Datum)
           → put_all (map (phi_write new_from there) (if b then line_kept (keepings func) line ∷ before is_phi_line (map (line_kept (keepings func)) lines) else [])) (kept_of (keepings func).values old)
           ≡ kept_of (keepings func).values (put_all (map (phi_write from registers) (if b then line ∷ before is_phi_line lines else [])) old)
-      by true phi rest old = phi_first line lines (all_first (LineStays keepings func) line lines stay) phi rest old
+      by true phi rest old = phi_first line lines (All-head (LineStays keepings func) line lines stay) phi rest old
       by false plain rest old = refl

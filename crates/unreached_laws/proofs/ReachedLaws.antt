@@ -11,12 +11,12 @@ use Rattle.ir_ast.specs.Edges.{targets}
 use Rattle.ir_ast.specs.Funcs.{Function}
 use Rattle.ir_cfg.specs.Graphs.{Edge, Graph, block_at, graph_of}
 use Rattle.ir_cfg.specs.Marks.{MarksReached}
-use Rattle.ir_cfg.specs.Paths.{Path, Reached, along, at_entry}
+use Rattle.ir_cfg.specs.Paths.{Path, Reached, along, at_entry, IsReached}
 use Rattle.ir_cfg.specs.Unreached.{DropsUnreached, Kept, block_kept, function_kept, kept_by, label_kept}
 use Rattle.ir_cfg.proofs.KeepsLines.{block_back, block_forth}
 use Rattle.ir_cfg.proofs.KeepsPaths.{marked_block, succs_at, target_marked, targets_kept}
 use Rattle.ir_cfg.proofs.KeepsPlaces.{marks_before, number_of_marked}
-use Rattle.unreached_laws.specs.Statements.{EachIsReached, UnreachedAreGone}
+use Rattle.unreached_laws.specs.Statements.{UnreachedAreGone}
 use Rattle.unreached_laws.proofs.RegisterLaws.{before_none}
 
 module _ (marks : List Bool) (func : Function) (reached : MarksReached (graph_of func) marks) where
@@ -49,19 +49,19 @@ module _ (marks : List Bool) (func : Function) (reached : MarksReached (graph_of
       subst (λ (all : List ℕ). Path new_graph all (new to)) (sym (map-append (marks_before marks) blocks (to ∷ [])))
       (along (map (marks_before marks) blocks) (new from) (new to) (path_forth blocks from path) (edge_forth from to (reached.complete from (blocks, path)) edge))
 
-  each_reached : EachIsReached (function_kept marks func)
+  each_reached : IsReached (function_kept marks func)
   each_reached block within =
       let found = get_some (function_kept marks func).blocks block within in
       let origin = block_back marks func block found.0 found.1 in
       let path = reached.sound origin.place origin.marked in
       subst (Reached new_graph) origin.same (map (marks_before marks) path.0, path_forth path.0 origin.place path.1)
 
-all_reached : (funcs after : List Function) → AllZip DropsUnreached funcs after → All EachIsReached after
-all_reached [] [] zip = All-nil EachIsReached
+all_reached : (funcs after : List Function) → AllZip DropsUnreached funcs after → All IsReached after
+all_reached [] [] zip = All-nil IsReached
 all_reached [] (first ∷ after) zip = absurd zip
 all_reached (func ∷ funcs) [] zip = absurd zip
 all_reached (func ∷ funcs) (first ∷ after) zip =
-    All-cons EachIsReached first after (subst EachIsReached (sym zip.0.rest) (each_reached zip.0.marks func zip.0.reached)) (all_reached funcs after zip.1)
+    All-cons IsReached first after (subst IsReached (sym zip.0.rest) (each_reached zip.0.marks func zip.0.reached)) (all_reached funcs after zip.1)
 
 pub unreached_are_gone : UnreachedAreGone
 unreached_are_gone content after drops = all_reached content.funcs after.funcs drops.functions

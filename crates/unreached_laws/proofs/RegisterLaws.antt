@@ -5,6 +5,7 @@ use Rattle.std.specs.List.{All}
 use Rattle.std.specs.Option.{option_map, IfSome}
 use Rattle.std.proofs.lemmas.Bool.{false≢true}
 use Rattle.std.proofs.lemmas.Option.{none-some, same_Some}
+use Rattle.std.proofs.lemmas.List.Elements.{All-head, All-tail}
 use Rattle.graph_search.specs.Paths.{Marked}
 use Rattle.ir_ast.specs.declared.ops.Operand.{Operand}
 use Rattle.ir_ast.specs.declared.ops.Operand.TheVariants.{Value, Int, Null, Fun}
@@ -13,7 +14,6 @@ use Rattle.ir_cfg.specs.Unreached.{Kept, kept_of, new_numbers, operand_kept}
 use Rattle.ir_cfg.proofs.KeepsPlaces.{before_le, marks_before, number_of_marked}
 use Rattle.object_meaning.specs.Calls.{function_in}
 use Rattle.object_meaning.specs.Registers.{nothing, operand, put, value}
-use Rattle.renaming_laws.proofs.ListLaws.{all_first, all_rest}
 
 abbrev pub read : List Datum → ℕ → Datum
 read registers register = slice_index_or registers register nothing
@@ -68,15 +68,15 @@ module _ (marks : List Bool) (kept : Kept) (numbers : kept.values ≡ new_number
   pub operand_same : (operands : List Operand) (place : ℕ) → All (OperandStays marks) operands
       → operand (kept_of marks registers) (map (operand_kept kept) operands) place ≡ operand registers operands place
   operand_same [] place stay = refl
-  operand_same (each ∷ operands) zero stay = value_kept each (all_first (OperandStays marks) each operands stay)
-  operand_same (each ∷ operands) (suc place) stay = operand_same operands place (all_rest (OperandStays marks) each operands stay)
+  operand_same (each ∷ operands) zero stay = value_kept each (All-head (OperandStays marks) each operands stay)
+  operand_same (each ∷ operands) (suc place) stay = operand_same operands place (All-tail (OperandStays marks) each operands stay)
 
   pub values_same : (operands : List Operand) → All (OperandStays marks) operands
       → map (value (kept_of marks registers)) (map (operand_kept kept) operands) ≡ map (value registers) operands
   values_same [] stay = refl
   values_same (each ∷ operands) stay =
-      ap (λ first. first ∷ map (value (kept_of marks registers)) (map (operand_kept kept) operands)) (value_kept each (all_first (OperandStays marks) each operands stay))
-      ∙ ap (λ rest. value registers each ∷ rest) (values_same operands (all_rest (OperandStays marks) each operands stay))
+      ap (λ first. first ∷ map (value (kept_of marks registers)) (map (operand_kept kept) operands)) (value_kept each (All-head (OperandStays marks) each operands stay))
+      ∙ ap (λ rest. value registers each ∷ rest) (values_same operands (All-tail (OperandStays marks) each operands stay))
 
 -- ---- what has no register stays
 

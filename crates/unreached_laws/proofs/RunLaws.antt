@@ -2,7 +2,7 @@
 use Rattle.std.proofs.Common.{◌≡◌, ℕ, ◌+◌, List, [], ◌∷◌, ◌++◌, map, refl, sym, ap, subst, ◌∙◌, append-nil, arith}
 use Rattle.std.specs.Prelude.{ℤ, ◌↔◌, codes, decimal}
 use Rattle.std.specs.List.{All, flat_map}
-use Rattle.std.proofs.lemmas.List.Elements.{All-cons, All-nil}
+use Rattle.std.proofs.lemmas.List.Elements.{All-cons, All-nil, All-head, All-tail}
 use Rattle.sp_ids.specs.declared.ends.End.{End}
 use Rattle.sp_ids.specs.declared.ends.End.TheVariants as ended
 use Rattle.ir_ast.specs.declared.types.Ty.{Ty}
@@ -19,7 +19,6 @@ use Rattle.object_meaning.specs.Steps.{step, steps_at}
 use Rattle.object_meaning.specs.Texts.{bundle_line, bundle_lines, bundle_of, closing_lines, shown}
 use Rattle.object_meaning.specs.Traces.{Access, Event}
 use Rattle.object_meaning.proofs.SimulationLaws.{FollowsIn, LeadsOn, LeadsOut, Leads, SameLast, accessing, gives_here, gives_there, happens}
-use Rattle.renaming_laws.proofs.ListLaws.{all_first, all_rest}
 use Rattle.unreached_laws.proofs.RegisterLaws.{OperandStays, value_kept}
 use Rattle.unreached_laws.proofs.Keepings.{Keeping, KeepsBlocks, LineStays, Takes, line_kept, numbers, with_lines}
 use Rattle.unreached_laws.proofs.Related.{EffectKept, FrameStays, Goes, Stays, TaskStays, both_end, both_go, both_print, image, image_of}
@@ -40,8 +39,8 @@ module _ (keeping : Keeping) (registers : List Datum) where
       ≡ flat_map (λ (each : Ty × Operand). codes " " ++ shown each.0 (value registers each.1)) bundle
   shown_kept [] stay = refl
   shown_kept (entry ∷ bundle) stay =
-      rw (value_kept keeping.values (numbers keeping) refl registers entry.1 (all_first EntryStays entry bundle stay))
-      (ap (λ rest. (codes " " ++ shown entry.0 (value registers entry.1)) ++ rest) (shown_kept bundle (all_rest EntryStays entry bundle stay)))
+      rw (value_kept keeping.values (numbers keeping) refl registers entry.1 (All-head EntryStays entry bundle stay))
+      (ap (λ rest. (codes " " ++ shown entry.0 (value registers entry.1)) ++ rest) (shown_kept bundle (All-tail EntryStays entry bundle stay)))
 
 abbrev text_line : ℕ → List ℕ → List ℕ → List (List ℕ)
 text_line place name text = (codes "! " ++ decimal place ++ codes " @" ++ name ++ text ++ newline) ∷ []
@@ -55,13 +54,13 @@ module _ (keepings : ℕ → Keeping) (names : ℕ → List ℕ) where
   bundle_same : (place : ℕ) (frame : Frame) (lines : List Line) → All (LineStays keepings frame.func) lines
       → bundle_line names place (image keepings frame) (bundle_of (map (line_kept (keepings frame.func)) lines)) ≡ bundle_line names place frame (bundle_of lines)
   bundle_same place frame [] stay = refl
-  bundle_same place frame (call ∷ rest) stay = bundle_kept place frame call.inst.bundle (all_first (LineStays keepings frame.func) call rest stay).bundle
+  bundle_same place frame (call ∷ rest) stay = bundle_kept place frame call.inst.bundle (All-head (LineStays keepings frame.func) call rest stay).bundle
 
   frames_show : (place : ℕ) (frames : List Frame) → TaskStays keepings frames → bundle_lines names place (map (image keepings) frames) ≡ bundle_lines names place frames
   frames_show place [] stay = refl
   frames_show place (frame ∷ frames) stay =
-      ap (λ first. first ++ bundle_lines names (place + 1) (map (image keepings) frames)) (bundle_same place frame frame.rest (all_first (FrameStays keepings) frame frames stay).rest)
-      ∙ ap (λ behind. bundle_line names place frame (bundle_of frame.rest) ++ behind) (frames_show (place + 1) frames (all_rest (FrameStays keepings) frame frames stay))
+      ap (λ first. first ++ bundle_lines names (place + 1) (map (image keepings) frames)) (bundle_same place frame frame.rest (All-head (FrameStays keepings) frame frames stay).rest)
+      ∙ ap (λ behind. bundle_line names place frame (bundle_of frame.rest) ++ behind) (frames_show (place + 1) frames (All-tail (FrameStays keepings) frame frames stay))
 
   closing_same : (end : End) (state : State) → Stays keepings state → closing_lines names end (image_of keepings state) ≡ closing_lines names end state
   closing_same (ended.Trap trap) state stays = frames_show 1 state.below stays.below

@@ -4,6 +4,7 @@ use Rattle.std.specs.Prelude.{Result, Ok, Err}
 use Rattle.std.specs.List.{All, prefix_len}
 use Rattle.std.proofs.lemmas.Bool.{true≢false}
 use Rattle.std.proofs.lemmas.List.{drop-map, length-map}
+use Rattle.std.proofs.lemmas.List.Elements.{All-head, All-tail}
 use Rattle.sp_ids.specs.declared.ends.End.TheVariants as ended
 use Rattle.sp_ids.specs.declared.ends.Trap.{Trap}
 use Rattle.sp_ids.specs.declared.ends.Trap.TheVariants as traps
@@ -28,7 +29,6 @@ use Rattle.object_meaning.specs.Registers.{nothing, number_in, operand, pointer_
 use Rattle.object_meaning.specs.States.{State, Setting}
 use Rattle.object_meaning.specs.Steps.{accesses, acts, loading, returned, settled, skipped, steps_at, storing}
 use Rattle.object_meaning.specs.Traces.{access_of, accesses_at, events_at, reading, writing}
-use Rattle.renaming_laws.proofs.ListLaws.{all_first, all_rest}
 use Rattle.unreached_laws.proofs.RegisterLaws.{operand_same, put_kept}
 use Rattle.unreached_laws.proofs.Keepings.{ArgumentsFit, Keeping, KeepsBlocks, LineStays, is_grouped, leads_same, leads_to, line_kept, numbers, plain_labels, plain_leads, plain_operands, plain_stay, with_lines}
 use Rattle.unreached_laws.proofs.Related.{EffectKept, FrameStays, Goes, Stays, both_end, both_go, image, image_of}
@@ -214,13 +214,13 @@ module _ (keepings : ℕ → Keeping) (one : Setting) (lines : ℕ → ℕ → L
         → EffectKept keepings (steps_at one state rest) (steps_at other (image_of keepings state) (map (line_kept (keepings state.running.func)) rest))
     lines_kept [] all = both_end (ended.Trap traps.Unreachable) state (image_of keepings state) (itself keepings one lines registers law state stays)
     lines_kept (line ∷ rest) all =
-        acts_kept state line rest stays (all_first (LineStays keepings state.running.func) line rest all) (all_rest (LineStays keepings state.running.func) line rest all) line.inst.op refl
+        acts_kept state line rest stays (All-head (LineStays keepings state.running.func) line rest all) (All-tail (LineStays keepings state.running.func) line rest all) line.inst.op refl
 
     seen_kept : (rest : List Line) → All (LineStays keepings state.running.func) rest
         → accesses_at other (image_of keepings state) (map (line_kept (keepings state.running.func)) rest) ≡ accesses_at one state rest
     seen_kept [] all = refl
     seen_kept (line ∷ rest) all =
-        access_kept state line rest stays (all_first (LineStays keepings state.running.func) line rest all) (all_rest (LineStays keepings state.running.func) line rest all) line.inst.op refl
+        access_kept state line rest stays (All-head (LineStays keepings state.running.func) line rest all) (All-tail (LineStays keepings state.running.func) line rest all) line.inst.op refl
 
     happens_kept : (rest : List Line) → events_at (map (line_kept (keepings state.running.func)) rest) ≡ events_at rest
     happens_kept [] = refl

@@ -1,10 +1,8 @@
 -- What is proved of a module without its unreached blocks.
-use Rattle.std.specs.Prelude.{ℕ, ◌<◌, ℤ, ◌↔◌, List, Option, length}
+use Rattle.std.specs.Prelude.{ℕ, ℤ, ◌↔◌, List, Option}
 use Rattle.std.specs.List.{All}
-use Rattle.ir_ast.specs.Funcs.{Function}
 use Rattle.ir_ast.specs.Modules.{ModuleContent}
-use Rattle.ir_cfg.specs.Graphs.{graph_of}
-use Rattle.ir_cfg.specs.Paths.{Reached}
+use Rattle.ir_cfg.specs.Paths.{IsReached}
 use Rattle.ir_cfg.specs.SourceModules.{IsSourceModule}
 use Rattle.ir_cfg.specs.Unreached.{ModuleDropsUnreached}
 use Rattle.object_meaning.specs.Outcomes.{Outcome}
@@ -25,13 +23,9 @@ BasesKeepReachedMeaning = (content after : ModuleContent) → IsSourceModule con
     → (input : List ℤ) (go : ℕ → Option ℕ) (bound : ℕ) (outcome : Outcome)
     → SourceGives content input go bound outcome ↔ TargetGives (based_module after) input go bound outcome
 
--- a path leads to each block
-abbrev pub EachIsReached : Function → Type 0
-EachIsReached func = (block : ℕ) → block < length func.blocks → Reached (graph_of func) block
-
 -- none of its blocks is unreached
 abbrev pub UnreachedAreGone : Type 0
-UnreachedAreGone = (content after : ModuleContent) → ModuleDropsUnreached content after → All EachIsReached after.funcs
+UnreachedAreGone = (content after : ModuleContent) → ModuleDropsUnreached content after → All IsReached after.funcs
 
 -- each source module has one without its unreached blocks
 abbrev pub UnreachedCanBeDropped : Type 0

@@ -13,9 +13,7 @@ use Rattle.ir_ast.specs.Values.{Definition, Gives, argument, definition_name, de
 use Rattle.ir_ast.specs.Faults.GroupShape.{number_at}
 use Rattle.ir_cfg.specs.DefiniteUses.{Defines, Stands, text_place}
 use Rattle.definite_assign.proofs.TextLemmas.{stands_in_text}
-
-abbrev pub has_result : Instruction → Bool
-has_result inst = is_some inst.result
+use Rattle.object_meaning.proofs.GivenLaws.{has_result}
 
 filtered_at : (insts : List Instruction) (place : ℕ) (inst : Instruction) → slice_get insts place ≡ Some inst → is_some inst.result ≡ true
     → slice_get (filter has_result insts) (length (filter has_result (take place insts))) ≡ Some inst

@@ -25,15 +25,14 @@ use Rattle.ir_ast.specs.Faults.GroupShape.{number_at}
 use Rattle.ir_ast.specs.Faults.PhiEdges.{is_phi}
 use Rattle.ir_cfg.specs.DefiniteUses.{Defines, UsesAreDefinite, by_line, text_place}
 use Rattle.ir_cfg.specs.Graphs.{graph_of}
-use Rattle.ir_cfg.specs.Paths.{Path, along, at_entry}
+use Rattle.ir_cfg.specs.Paths.{Path, along, at_entry, IsReached}
 use Rattle.ir_cfg.proofs.PathLemmas.{edge_within}
 use Rattle.base_forms.specs.Bases.{source_of, stepped_from}
 use Rattle.base_forms.specs.Polls.{placed}
 use Rattle.base_definite.specs.Comings.{Comes, over_edge, past_line, to_entry}
 use Rattle.base_definite.proofs.base_paths.GivesLaws.{defines_gives, defines_or_not}
 use Rattle.base_definite.proofs.base_paths.UndefinedLaws.{Undefined, at_first, behind_edge, behind_line, last_defines_none, undefined_unused}
-use Rattle.base_laws.proofs.PlacedLaws.{definitions_placed}
-use Rattle.base_definite.specs.Relations.{IsReached}
+use Rattle.base_forms.proofs.PlacedLaws.{definitions_placed}
 use Rattle.base_definite.proofs.base_relations.GroupLaws.{given_at}
 
 -- a way back that ends

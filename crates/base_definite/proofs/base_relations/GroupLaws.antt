@@ -14,15 +14,15 @@ use Rattle.ir_ast.specs.Funcs.{Function, instructions_of}
 use Rattle.ir_ast.specs.Values.{Definition, Gives, argument, definitions_of, outcome}
 use Rattle.ir_ast.specs.Faults.GroupShape.{number_at}
 use Rattle.object_meaning.specs.Lines.{after_all, following}
+use Rattle.object_meaning.proofs.GivenLaws.{has_result, after_is, given_by, given_append, results_last}
 use Rattle.base_forms.specs.DerivedMarks.{derived_marks}
 use Rattle.base_forms.specs.Inserted.{inserted_number}
 use Rattle.base_forms.specs.Based.{based, based_blocks, based_insts, lines_for}
 use Rattle.renaming_laws.specs.Renamed.{Renaming}
-use Rattle.base_laws.proofs.PlacedLaws.{has_result}
 use Rattle.base_laws.proofs.TypeLaws.{MarksPointers}
 use Rattle.base_laws.proofs.NumberLaws.{first_keeps, renaming_of}
 use Rattle.base_laws.proofs.LineLaws.{IsReady}
-use Rattle.base_laws.proofs.BlockLaws.{after_based, after_is, given_append, given_by, start}
+use Rattle.base_laws.proofs.BlockLaws.{after_based}
 use Rattle.base_laws.proofs.FormLaws.{based_append}
 
 -- ---- lists
@@ -206,7 +206,7 @@ module _ (func : Function) where
     pub values_before : (place : ℕ) (inst : Instruction) → slice_get (instructions_of func.blocks) place ≡ Some inst
         → drop (length func.args) (definitions_of func) ≡ given_by (take place (instructions_of func.blocks)) ++ (given_by (inst ∷ drop (place + 1) (instructions_of func.blocks)) ++ [])
     values_before place inst at =
-        start functions number func called is pointers
+        results_last func
         ∙ (ap (λ insts. given_by insts ++ []) (split_at (instructions_of func.blocks) place inst at)
         ∙ (ap (λ all. all ++ []) (given_append (take place (instructions_of func.blocks)) (inst ∷ drop (place + 1) (instructions_of func.blocks)))
         ∙ append_assoc (given_by (take place (instructions_of func.blocks))) (given_by (inst ∷ drop (place + 1) (instructions_of func.blocks))) []))

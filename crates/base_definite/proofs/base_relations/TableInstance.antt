@@ -10,6 +10,7 @@ use Rattle.ir_ast.specs.Funcs.{Function, instructions_of}
 use Rattle.ir_ast.specs.Modules.{ModuleContent}
 use Rattle.ir_cfg.specs.DefiniteUses.{UsesAreDefinite}
 use Rattle.ir_cfg.specs.SourceModules.{IsSourceModule}
+use Rattle.ir_cfg.specs.Paths.{IsReached}
 use Rattle.base_forms.specs.DerivedMarks.{derived_marks}
 use Rattle.base_forms.specs.Polls.{placed}
 use Rattle.base_forms.specs.Based.{base_table, based}
@@ -17,7 +18,7 @@ use Rattle.base_laws.proofs.TypeLaws.{IsTypedLine, MarksPointers, derived_are_po
 use Rattle.base_laws.proofs.NumberLaws.{renaming_of}
 use Rattle.base_laws.proofs.LineLaws.{IsReady}
 use Rattle.base_laws.proofs.ReadyLaws.{ready, renaming_found, renamings}
-use Rattle.base_definite.specs.Relations.{IsReached, TableHasBases, before}
+use Rattle.base_definite.specs.Relations.{TableHasBases, before}
 use Rattle.base_definite.proofs.base_relations.EndLaws.{Ends, ends_placed, value_ends}
 use Rattle.base_definite.proofs.base_relations.BaseLaws.{has_bases}
 use Rattle.base_definite.proofs.base_relations.TableLaws.{is_base_table}

@@ -17,13 +17,14 @@ use Rattle.base_forms.specs.Bases.{base_of, bases_for}
 use Rattle.base_forms.specs.Based.{base_table, based}
 use Rattle.renaming_laws.specs.Renamed.{Renaming}
 use Rattle.base_laws.proofs.TypeLaws.{MarksPointers}
-use Rattle.base_laws.proofs.NumberLaws.{definition_count, number_alone, number_behind, renaming_of, shift_last, shift_next}
+use Rattle.base_laws.proofs.NumberLaws.{number_alone, number_behind, renaming_of, shift_last, shift_next}
 use Rattle.base_laws.proofs.LineLaws.{IsReady}
-use Rattle.base_laws.proofs.BlockLaws.{after_is, now_room_is}
+use Rattle.base_laws.proofs.BlockLaws.{now_room_is}
 use Rattle.base_definite.specs.Relations.{before}
 use Rattle.base_definite.proofs.base_relations.EndLaws.{Ends}
 use Rattle.base_definite.proofs.base_relations.BaseLaws.{derived_back, relation}
 use Rattle.base_definite.proofs.base_relations.ValueLaws.{inserted_apart}
+use Rattle.object_meaning.proofs.GivenLaws.{after_is, definition_count}
 
 module _ (functions : ℕ → Renaming) (number : ℕ) (func : Function) (called : Bool) (is : functions number ≡ renaming_of called func) (pointers : MarksPointers func (derived_marks func))
     (ready : All (IsReady functions func) (instructions_of func.blocks)) (ends : (value : ValueId) → Ends func (operands.Value value)) where

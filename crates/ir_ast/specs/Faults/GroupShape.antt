@@ -1,19 +1,20 @@
 -- Statepoint groups: what has no fault of code 18, which is one of the rewritten form alone (Garbage
 -- Collection Safepoints in LLVM, "Intrinsics").
 use Rattle.std.specs.Prelude.{◌≡◌, ◌≢◌, ℕ, ◌+◌, ◌<◌, ◌==◌, Bool, true, false, List, [], ◌∷◌, length, take, filter, Some, IfSome, is_some, slice_get}
-use Rattle.std.specs.List.{All}
+use Rattle.std.specs.List.{All, list_all, list_any}
 use Rattle.sp_ids.specs.declared.ids.ValueId.{ValueId}
+use Rattle.ir_ast.specs.declared.types.Ty.{Ty}
 use Rattle.ir_ast.specs.declared.types.Ty.TheVariants.{Ptr, Token}
 use Rattle.ir_ast.specs.declared.ops.Operand.{Operand}
 use Rattle.ir_ast.specs.declared.ops.Operand.TheVariants.{Value, Int}
 use Rattle.ir_ast.specs.declared.ops.Op.{Op}
-use Rattle.ir_ast.specs.declared.ops.Op.TheVariants.{GcResult, GcRelocate}
+use Rattle.ir_ast.specs.declared.ops.Op.TheVariants.{Statepoint, GcResult, GcRelocate}
 pub use Rattle.ir_ast.specs.Ops.{is_statepoint}
 use Rattle.ir_ast.specs.Insts.{Instruction}
 use Rattle.ir_ast.specs.Funcs.{Function, instructions_of}
 use Rattle.ir_ast.specs.Values.{value_types}
 pub use Rattle.ir_ast.specs.Operands.{live_entries, entries_of}
-use Rattle.ir_ast.specs.Operands.{values_used}
+use Rattle.ir_ast.specs.Operands.{same_operand, values_used}
 use Rattle.ir_ast.specs.Faults.TypeClash.{Fits}
 
 -- the number of the value that the instruction at a place gives
@@ -67,10 +68,24 @@ pub record RelocateInShape (func : Function) (place : ℕ) (inst : Instruction) 
 abbrev pub UsesNoToken : Function → Instruction → Type 0
 UsesNoToken func inst = All (λ value. slice_get (value_types func) value ≢ Some Token) (values_used inst)
 
+-- what a bundle names stands among these live entries, if it is a pointer
+abbrev pub is_held : List Operand → Ty → Operand → Bool
+is_held entries Ptr (Value value) = list_any (λ entry. same_operand entry (Value value)) entries
+is_held entries ty operand = true
+
+-- each pointer that the bundle of a statepoint names is one of its live entries
+abbrev pub holds_live : Instruction → Bool
+holds_live inst = list_all (λ entry. is_held (entries_of inst) entry.0 entry.1) inst.bundle
+
+-- it uses no token, and its live entries are pointers
+abbrev pub IsApart : Function → Instruction → Type 0
+IsApart func inst = UsesNoToken func inst × All (λ entry. Fits (value_types func) entry Ptr) (entries_of inst)
+
 abbrev pub ShapeOf : Function → ℕ → Instruction → Op → Type 0
 ShapeOf func place inst GcResult = ResultInShape func place inst
 ShapeOf func place inst GcRelocate = RelocateInShape func place inst
-ShapeOf func place inst op = UsesNoToken func inst × All (λ entry. Fits (value_types func) entry Ptr) (entries_of inst)
+ShapeOf func place inst (Statepoint id callee types) = IsApart func inst × (holds_live inst ≡ true)
+ShapeOf func place inst op = IsApart func inst
 
 abbrev pub GroupsInShape : Function → Type 0
 GroupsInShape func = (place : ℕ) (inst : Instruction) → slice_get (instructions_of func.blocks) place ≡ Some inst

@@ -1,12 +1,10 @@
--- The module of a text without a fault is one of its form, without bundles.
+-- The module of a text without a fault is one of its form.
 use Rattle.std.proofs.Common.{◌≡◌, ◌⊎◌, ℕ, List, inl, inr, refl}
 use Rattle.std.specs.Prelude.{Some, slice_get}
 use Rattle.std.specs.List.{All}
-use Rattle.std.proofs.lemmas.List.Elements.{All-weaker}
 use Rattle.list_laws.proofs.Contents.{all_from_at}
 use Rattle.ir_ast.specs.declared.modules.Form.{Form}
 use Rattle.ir_ast.specs.declared.modules.Form.TheVariants.{Source}
-use Rattle.ir_ast.specs.Bundles.{HasNoBundle}
 use Rattle.ir_ast.specs.Funcs.{Function}
 use Rattle.ir_ast.specs.Modules.{line_at}
 use Rattle.ir_cfg.specs.DefiniteUses.{Meets, Uses, UsesAreDefinite}
@@ -16,8 +14,7 @@ use Rattle.ir_lines.specs.Modules.{module_of}
 use Rattle.ir_resolve.specs.FaultSet.{HasNoResolvedFault}
 use Rattle.ir_lines.specs.Statements.{Line, lines_of}
 use Rattle.ir_types.specs.FaultSet.{HasNoFault, plain, not_definite}
-use Rattle.module_laws.specs.TextFunctions.{IsTextFunction}
-use Rattle.module_laws.proofs.TypedTexts.{text_made, text_typed}
+use Rattle.module_laws.proofs.TypedTexts.{text_typed}
 use Rattle.read_back.specs.AcceptedTexts.{AcceptedIsOf}
 use Rattle.read_back.proofs.accepted_texts.Decided.{meets_or_not}
 
@@ -49,10 +46,7 @@ module _ (form : Form) (lines : List Line) (none : HasNoFault form lines) where
 
 pub accepted_is_of : (form : Form) → AcceptedIsOf form
 accepted_is_of form text readings small read none =
-    let clean : HasNoResolvedFault form (lines_of readings) = no_plain form (lines_of readings) none in (
-      record { typed = text_typed form text readings small read clean; definite = all_definite form (lines_of readings) none },
-      All-weaker IsTextFunction HasNoBundle (λ func own. own.no_bundle) (module_of form (lines_of readings)).content.funcs (text_made form text readings small read clean),
-    )
+    record { typed = text_typed form text readings small read (no_plain form (lines_of readings) none); definite = all_definite form (lines_of readings) none }
 
 pub accepted_is_source : AcceptedIsOf Source
 accepted_is_source = accepted_is_of Source

@@ -23,7 +23,7 @@ use Rattle.machine_meaning.specs.Machines.{Machine, Machinery, spilled}
 use Rattle.machine_meaning.specs.Moving.{verdict_at}
 use Rattle.tool_io.specs.Counts.{raised}
 use Rattle.rewritten_runs.specs.Places.{moves_in, occasions, stands_behind, verdicts_behind}
-use Rattle.rewritten_runs.specs.PlacedRuns.{IsPlacedBy, PlacesAreByEvents, events_of, sizes_in}
+use Rattle.rewritten_runs.specs.PlacedRuns.{IsPlacedBy, PlacesAreByEvents, events_of, stand_sizes}
 use Rattle.rewritten_runs.proofs.event_places.StepLaws.{Stays, Happens, GoesOn, EndsAt, Tells, step_tells}
 
 event_in : Happening → Event
@@ -232,7 +232,7 @@ places_are_by_events content stack_map input plan bound machine gives way =
     let start = machine_opening machinery input in
     let found = comes machinery machine.end gives.last way gives.run.within start.state start.lines gives.run.by in
     let made : MachineOutcome = machine_outcome machinery input gives.run.within machine.end gives.last in
-    subst (λ (m : MachineOutcome). IsPlacedBy plan (events_of m) (sizes_in m) m) (sym gives.is)
+    subst (λ (m : MachineOutcome). IsPlacedBy plan (events_of m) (stand_sizes m) m) (sym gives.is)
     (record {
       stands = found.stands ∙ ap (λ (sizes : List ℕ). stands_behind (moves_in plan) 0 [] (occasions (events_of made) sizes)) (sym found.grown);
       verdicts = found.verdicts_are ∙ ap (λ (sizes : List ℕ). verdicts_behind (moves_in plan) 0 [] (occasions (events_of made) sizes)) (sym found.grown);

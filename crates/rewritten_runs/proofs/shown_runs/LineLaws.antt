@@ -17,6 +17,7 @@ use Rattle.object_meaning.specs.Runs.{Next, Go, End as Over, advance, goes}
 use Rattle.object_meaning.specs.Tasks.{with_event}
 use Rattle.object_meaning.specs.Traces.{done_at, traced}
 use Rattle.object_meaning.proofs.RunLaws.{goes_over, not_over, traced_over}
+use Rattle.object_meaning.proofs.OutcomeLaws.{same_lines}
 use Rattle.machine_meaning.specs.Happenings.{Happening, ObjectMove, SlotChange, happenings_at}
 use Rattle.machine_meaning.specs.Machines.{Machine, Machinery}
 use Rattle.machine_meaning.specs.MachineRuns.{machine_proceeds}
@@ -26,7 +27,6 @@ use Rattle.machine_meaning.specs.TrapLines.{lines_from as frames_from}
 use Rattle.tool_report.specs.RunLines.{event_line, moved_line, slot_line}
 use Rattle.run_texts.specs.RunTexts.{event_lines, line_of_move, line_of_slot, lines_from, printed_by, step_lines, trace_lines}
 use Rattle.rewritten_runs.specs.ShownTexts.{is_traced, program_lines}
-use Rattle.run_texts.proofs.TextLaws.{same_lines}
 
 -- ---- lines of a trace
 

@@ -7,7 +7,7 @@ use Rattle.ir_ast.specs.Modules.{ModuleContent}
 use Rattle.ir_ast.specs.Objects.{Object, footprint}
 use Rattle.move_plan.specs.declared.plan_lines.PlanLine.{PlanLine}
 use Rattle.moving_heap.specs.declared.stands.Stand.{Stand}
-use Rattle.object_meaning.specs.Outcomes.{Outcome}
+use Rattle.object_meaning.specs.Outcomes.{Outcome, sizes_in}
 use Rattle.object_meaning.specs.Texts.{function_name}
 use Rattle.stackmap_write.specs.ModuleMaps.{map_of}
 use Rattle.machine_meaning.specs.MachineRuns.{MachineOutcome}
@@ -18,14 +18,14 @@ use Rattle.sp_rewrite.specs.Statements.{IsRewritten}
 use Rattle.rewritten_runs.proofs.NameLaws.{names_are_kept}
 use Rattle.tool_report.specs.Closings.{closing_line}
 use Rattle.run_texts.specs.RunTexts.{RunWrites}
-use Rattle.rewritten_runs.specs.Places.{sizes_of, stands_by}
+use Rattle.rewritten_runs.specs.Places.{stands_by}
 use Rattle.rewritten_runs.specs.ShownTexts.{object_lines, places_shown}
 use Rattle.rewritten_runs.specs.ShownStatements.{IsAlike, SourcesAreShown, VerifiedAreShown}
 use Rattle.rewritten_runs.proofs.shown_runs.ShownLaws.{shown_text}
 
-same_sizes : (layouts : List ObjectLayout) (objects : List Object) (stands : List Stand) → length stands ≡ length objects
+pub same_sizes : (layouts : List ObjectLayout) (objects : List Object) (stands : List Stand) → length stands ≡ length objects
     → ((place : ℕ) (object : Object) (stand : Stand) → slice_get objects place ≡ Some object → slice_get stands place ≡ Some stand → stand.size ≡ footprint layouts object)
-    → map (λ (stand : Stand). stand.size) stands ≡ sizes_of layouts objects
+    → map (λ (stand : Stand). stand.size) stands ≡ sizes_in layouts objects
 same_sizes layouts [] [] count sizes = refl
 same_sizes layouts [] (stand ∷ stands) count sizes = absurd (omega (arith, count))
 same_sizes layouts (object ∷ objects) [] count sizes = absurd (omega (arith, count))
@@ -58,7 +58,7 @@ places_named : (shown : Bool) (content after : ModuleContent) (plan : List PlanL
     → places_shown shown after plan meant ≡ places_shown shown content plan meant
 places_named false content after plan meant same = refl
 places_named true content after plan meant same =
-    ap (λ (layouts : List ObjectLayout). object_lines layouts meant.objects (stands_by plan meant.happened (sizes_of layouts meant.objects))) same
+    ap (λ (layouts : List ObjectLayout). object_lines layouts meant.objects (stands_by plan meant.happened (sizes_in layouts meant.objects))) same
 
 layouts_kept : (content after : ModuleContent) → IsRewritten content after → after.layouts ≡ content.layouts
 layouts_kept content after is = ap (λ (c : ModuleContent). c.layouts) is.rest ∙ is.drops.layouts

@@ -12,7 +12,7 @@ use Rattle.move_plan.specs.declared.plan_lines.PlanLine.{PlanLine}
 use Rattle.map_bytes.specs.Maps.{StackMap}
 use Rattle.moving_heap.specs.declared.stands.Stand.{Stand}
 use Rattle.moving_heap.specs.Contents.{Content}
-use Rattle.object_meaning.specs.Outcomes.{Outcome}
+use Rattle.object_meaning.specs.Outcomes.{Outcome, sizes_in}
 use Rattle.object_meaning.specs.Runs.{Go}
 use Rattle.object_meaning.specs.Texts.{function_name}
 use Rattle.object_meaning.specs.Traces.{Event}
@@ -23,7 +23,7 @@ use Rattle.machine_meaning.specs.TrapLines.{closing_of}
 use Rattle.tool_report.specs.Closings.{closing_line}
 use Rattle.tool_report.specs.RunLines.{place_line}
 use Rattle.run_texts.specs.RunTexts.{RunWrites, end_lines, layout_name, lines_from, place_lines}
-use Rattle.rewritten_runs.specs.Places.{sizes_of, stands_by}
+use Rattle.rewritten_runs.specs.Places.{stands_by}
 use Rattle.rewritten_runs.proofs.event_places.RunLaws.{places_are_by_events}
 use Rattle.rewritten_runs.specs.ShownTexts.{IsShownText, is_traced, object_lines, places_shown, program_lines}
 use Rattle.rewritten_runs.specs.ShownStatements.{IsAlike}
@@ -73,7 +73,7 @@ module _ (content : ModuleContent) (stack_map : StackMap) (input : List ℤ) (pl
       ap (λ (lines : List (List ℕ)). lines ++ shown) (sym (prints_from machinery writes.gives.run.within (machine_opening machinery input) machine.end writes.gives.last writes.gives.run.by))
       ∙ (sym (ap (λ (m : MachineOutcome). m.lines) writes.gives.is) ∙ alike.lines)
 
-  stands : last.heap.stands ≡ stands_by plan meant.happened (sizes_of content.layouts meant.objects)
+  stands : last.heap.stands ≡ stands_by plan meant.happened (sizes_in content.layouts meant.objects)
   stands =
       sym (ap (λ (m : MachineOutcome). m.heap.stands) writes.gives.is)
       ∙ ((places_are_by_events content stack_map input plan bound machine writes.gives alike.way).stands

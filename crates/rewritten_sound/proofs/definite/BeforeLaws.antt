@@ -1,9 +1,9 @@
 -- A module whose functions are in shape for liveness, and whose blocks are all reached, is one before liveness.
-use Rattle.std.proofs.Common.{◌≡◌, ℕ, zero, suc, ◌+◌, ◌-◌, ◌<◌, ◌≤◌, Bool, true, false, not, ◌&&◌, ltb, if◌then◌else◌, List, [], ◌∷◌, ◌++◌, length, map, replicate, refl, sym, ap, subst, ◌∙◌, inl, inr, arith}
+use Rattle.std.proofs.Common.{◌≡◌, ℕ, zero, suc, ◌+◌, ◌-◌, ◌<◌, ◌≤◌, Bool, true, false, not, ◌&&◌, if◌then◌else◌, List, [], ◌∷◌, ◌++◌, length, map, replicate, refl, sym, ap, subst, ◌∙◌, inl, inr, arith}
 use Rattle.std.specs.Prelude.{Option, Some, None, is_some, slice_get, slice_index, drop}
-use Rattle.std.specs.List.{All, flat_map, list_all, position, position_or_len, range_with_len}
+use Rattle.std.specs.List.{All, flat_map, list_all, range_with_len}
 use Rattle.std.specs.Option.{option_map_or}
-use Rattle.std.proofs.lemmas.Bool.{cases_Bool, cases_lt, ltb-true}
+use Rattle.std.proofs.lemmas.Bool.{cases_lt}
 use Rattle.std.proofs.lemmas.List.{get_or_past, length-append, length-map}
 use Rattle.std.proofs.lemmas.List.Elements.{All-nil}
 use Rattle.std.proofs.lemmas.Option.{get_or_from_slice_get, slice_get_within}
@@ -35,22 +35,23 @@ use Rattle.ir_cfg.proofs.KeepsLines.{line_at}
 use Rattle.ir_cfg.proofs.KeepsPaths.{succs_at}
 use Rattle.object_meaning.specs.Calls.{function_in}
 use Rattle.object_meaning.specs.Jumps.{branch_taken, case_taken, is_case, label_at, phi_count}
-use Rattle.object_meaning.specs.Registers.{is_set, number_in}
-use Rattle.object_meaning.specs.Lines.{Line, following, register_count, registers_of}
+use Rattle.object_meaning.specs.Registers.{number_in}
+use Rattle.object_meaning.specs.Lines.{Line, register_count, registers_of}
 use Rattle.object_meaning.specs.TargetRuns.{plain_lines}
+use Rattle.object_meaning.proofs.GivenLaws.{after_is, definition_count}
+use Rattle.object_meaning.proofs.LineLaws.{last_register, branch_within, phi_count_is}
 use Rattle.rewriting_forms.specs.Numbered.{lines_at}
 use Rattle.rewriting_laws.specs.Laws.{Edge, IsPlain, LeadsByEdges, Reached, at_first, over}
 use Rattle.rewriting_laws.specs.Laws as laws
 use Rattle.rewriting_laws.specs.Related.{ArgumentsFit}
 use Rattle.rewriting_laws.specs.Statements.{IsBefore, func_of, no_function, rewritings}
 use Rattle.base_laws.specs.BeforeLiveness.{CallsInShape, IsPlainLine, PassesArguments, PhisStandFirst, arguments_of}
-use Rattle.base_laws.proofs.BlockLaws.{after_is, last_register}
-use Rattle.base_laws.proofs.NumberLaws.{definition_count}
 use Rattle.base_definite.proofs.base_paths.GivesLaws.{defines_gives}
+use Rattle.base_definite.proofs.LinePlaces.{line_from}
 use Rattle.rewritten_sound.specs.LeadsOut.{HasLabels, IsReadyForGroups, LeadsOut}
-use Rattle.rewritten_sound.proofs.definite.LineLaws.{given_defines, line_from, lines_length}
+use Rattle.rewritten_sound.proofs.definite.LineLaws.{given_defines, lines_length}
 use Rattle.rewritten_sound.proofs.definite.EdgeLaws.{edge_to, label_edge}
-use Rattle.list_laws.proofs.Tests.{all_passes}
+use Rattle.list_laws.proofs.Tests.{all_passes, position_within}
 
 -- only the last one of a list that ends so passes
 last_passes : {A : Type 0} (test : A → Bool) (before : List A) (last : A) (k : ℕ) (x : A) → list_all (λ y. not (test y)) before ≡ true
@@ -68,23 +69,9 @@ last_passes {A} test (first ∷ before) last (suc k) x none at passes = ap suc (
     rest true all = all
     rest false all = absurd cc
 
-phi_count_is : (next : ℕ) (insts : List Instruction) → phi_count (plain_lines next insts) ≡ phis_of insts
-phi_count_is next [] = refl
-phi_count_is next (inst ∷ insts) = ap (λ n. if is_phi inst.op then 1 + n else 0) (phi_count_is (following next inst) insts)
-
 fewer_cases : (all : List Operand) → 0 < length all → suc (length (drop 1 all)) ≤ length all
 fewer_cases [] some = absurd (omega arith)
 fewer_cases (first ∷ all) some = omega arith
-
-position_within : {A : Type 0} (test : A → Bool) (xs : List A) → option_map_or (λ place. place + 1) (position test xs) 0 ≤ length xs
-position_within test xs = elim (cases_Bool (ltb (position_or_len test xs) (length xs))) [
-  | inl within ↦ rw within (let below = ltb-true (position_or_len test xs) (length xs) within in omega arith)
-  | inr past ↦ rw past (omega arith)
-]
-
-branch_below : (t : Bool) → (if t then 0 else 1) < 2
-branch_below true = omega arith
-branch_below false = omega arith
 
 module _ (content : ModuleContent) (func : Function) (ready : IsReadyForGroups content func) where
   plain_line : (b k : ℕ) (line : Line) → slice_get (lines_at func b) k ≡ Some line → IsPlainLine content line.inst
@@ -103,7 +90,7 @@ module _ (content : ModuleContent) (func : Function) (ready : IsReadyForGroups c
   leads_as : (b k : ℕ) (line : Line) → slice_get (lines_at func b) k ≡ Some line → (op : Op) → line.inst.op ≡ op → HasLabels op line.inst → LeadsByEdges func b line op
   leads_as b k line at ops.Br is count = leads_along b k line at (ap is_terminator is) 0 (omega arith)
   leads_as b k line at ops.CondBr is count = λ datum.
-      let below = branch_below (is_set datum) in
+      let below = branch_within datum in
       leads_along b k line at (ap is_terminator is) (branch_taken datum) (omega (arith, count, below))
   leads_as b k line at ops.Switch is count = λ datum.
       let many = count.0 in

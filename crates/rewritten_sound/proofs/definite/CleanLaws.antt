@@ -27,7 +27,8 @@ use Rattle.rewriting_laws.proofs.JumpLemmas.{one_piece}
 use Rattle.rewriting_laws.proofs.LiveLaws.{table_closed}
 use Rattle.rewriting_laws.proofs.NameLemmas.{call_or_not, filter_among, is_none, is_one, names_given, names_kept, names_listed, names_unlisted}
 use Rattle.base_definite.proofs.base_paths.UndefinedLaws.{Undefined, at_first, behind_edge, behind_line}
-use Rattle.rewritten_sound.proofs.definite.LineLaws.{gives_defines, line_from, lines_length}
+use Rattle.base_definite.proofs.LinePlaces.{line_from}
+use Rattle.rewritten_sound.proofs.definite.LineLaws.{gives_defines, lines_length}
 use Rattle.rewritten_sound.proofs.definite.EdgeLaws.{edge_to}
 use Rattle.rewritten_sound.proofs.definite.PieceLaws.{among_at, call_pieces, for_line, offset, piece_at, pieces_for, relocate_at, result_at, result_piece, whole_length}
 use Rattle.rewritten_sound.proofs.definite.NowLaws.{block_now, defines_piece, graph_now, now, number, pieces, text}

@@ -23,6 +23,7 @@ use Rattle.ir_ast.specs.Operands.{value_in, values_used}
 use Rattle.ir_ast.specs.Faults.PhiEdges.{PhisAreRight, is_phi}
 use Rattle.ir_cfg.specs.DefiniteUses.{Stands, Uses, UsesAreDefinite, by_entry, by_line, in_arguments, text_place}
 use Rattle.ir_cfg.specs.Graphs.{graph_of, preds_of}
+use Rattle.ir_cfg.proofs.UsedLaws.{use_within}
 use Rattle.object_meaning.specs.Lines.{Line}
 use Rattle.rewriting_forms.specs.Numbered.{among, gives, line_at, lines_at, named, pointers, preds}
 use Rattle.rewriting_forms.specs.Liveness.{any_held, is_live, is_live_after, live_list, live_table, is_use}
@@ -37,8 +38,9 @@ use Rattle.rewriting_laws.proofs.NameLemmas.{among_filter, call_or_not, is_none,
 use Rattle.base_definite.proofs.MeetLaws.{meets_or_not}
 use Rattle.base_definite.specs.Paths.{HasDefiniteBases}
 use Rattle.base_definite.proofs.base_paths.UndefinedLaws.{Undefined, behind_edge, behind_line, undefined_unused}
+use Rattle.base_definite.proofs.LinePlaces.{line_from}
 use Rattle.rewritten_sound.specs.LeadsOut.{PhisAreBare}
-use Rattle.rewritten_sound.proofs.definite.LineLaws.{gives_defines, line_from, lines_length}
+use Rattle.rewritten_sound.proofs.definite.LineLaws.{gives_defines, lines_length}
 use Rattle.rewritten_sound.proofs.definite.EdgeLaws.{edge_from}
 use Rattle.rewritten_sound.proofs.definite.PieceLaws.{PieceFrom, call_pieces, from_join, from_line, offset, piece_at, piece_from, pieces_for}
 use Rattle.rewritten_sound.proofs.definite.NowLaws.{block_now, now, number, pieces, text}
@@ -351,11 +353,6 @@ module _ (func : Function) (table : List Operand) (naming : Naming) where
     no_use _ _ _ _ (by_entry b j e value phi operand label block stands one label_at operand_at value_at found) is undefined =
         no_use_by_entry b j e phi operand label stands one label_at operand_at (value_at ∙ ap (λ v. Some v) is)
         (clean_end func table naming fits m label.0 (length block.insts) block (came_to func table naming fits m label.0 (length block.insts) undefined) found refl)
-
-use_within : (func : Function) (line value number place : ℕ) → Uses func line value number place → (block : BasicBlock) × (slice_get func.blocks number ≡ Some block) × (place ≤ length block.insts)
-use_within func _ _ _ _ (by_line number place value line stands no_phi used) =
-    let within = slice_get_within stands.block.insts place line stands.in_block in (stands.block, stands.in_function, omega arith)
-use_within func _ _ _ _ (by_entry number place entry value phi operand label block stands one label_at operand_at value_at found) = (block, found, omega arith)
 
 -- for every naming that fits
 pub definite_now : (func : Function) (table : List Operand) (naming : Naming) (fits : Fits func table naming (live_table func table)) (room : ℕ)

@@ -15,7 +15,7 @@ use Rattle.ir_ast.specs.Funcs.{Function}
 use Rattle.ir_ast.specs.Modules.{ModuleContent}
 use Rattle.ir_cfg.specs.DefiniteUses.{UsesAreDefinite}
 use Rattle.ir_cfg.specs.Graphs.{Graph}
-use Rattle.ir_cfg.specs.Paths.{Reached}
+use Rattle.ir_cfg.specs.Paths.{Reached, IsReached}
 use Rattle.ir_cfg.specs.TypedModules.{IsTypedFunction}
 use Rattle.ir_ast.specs.Faults.PhiEdges.{PhisAreRight}
 use Rattle.ir_cfg.proofs.KeepsLines.{all_insts}
@@ -24,7 +24,7 @@ use Rattle.base_forms.specs.Based.{base_table, based, based_module}
 use Rattle.base_laws.proofs.MeaningLaws.{bases_keep_meaning, found_now}
 use Rattle.base_laws.proofs.ShapeLaws.{graph_now, in_shape}
 use Rattle.base_definite.specs.Paths.{HasDefiniteBases}
-use Rattle.base_definite.specs.Relations.{IsReached, before}
+use Rattle.base_definite.specs.Relations.{before}
 use Rattle.base_definite.proofs.base_relations.TableInstance.{table_has_bases}
 use Rattle.base_definite.proofs.BasesInstance.{based_has_definite_bases}
 use Rattle.rewriting_forms.specs.Names.{Naming, naming_of}

@@ -33,7 +33,7 @@ use Rattle.base_forms.specs.Lines.{merged_bases}
 use Rattle.base_forms.specs.Based.{base_line, based, based_blocks, based_insts, insertion, kept_line, lines_for}
 use Rattle.base_laws.specs.BeforeLiveness.{PhisStandFirst}
 use Rattle.base_laws.proofs.FormLaws.{all_based, each_line}
-use Rattle.base_laws.proofs.PlacedLaws.{all_placed, block_placed}
+use Rattle.base_forms.proofs.PlacedLaws.{all_placed, block_placed}
 use Rattle.rewritten_sound.specs.LeadsOut.{HasLabels, LeadsOut, PhisAreBare}
 use Rattle.rewritten_sound.proofs.definite.UsedLaws.{phi_right}
 

@@ -32,8 +32,9 @@ use Rattle.rewriting_forms.specs.Liveness.{IsEntry, IsUse, Live, any_held, PhisA
 use Rattle.base_definite.specs.Paths.{HasDefiniteBases}
 use Rattle.base_definite.proofs.base_paths.StayLaws.{base_first, derived_high}
 use Rattle.base_definite.proofs.base_paths.UndefinedLaws.{Undefined, behind_edge, behind_line, undefined_unused}
+use Rattle.base_definite.proofs.LinePlaces.{line_from}
 use Rattle.rewritten_sound.specs.LeadsOut.{PhisAreBare}
-use Rattle.rewritten_sound.proofs.definite.LineLaws.{gives_defines, line_from, lines_length}
+use Rattle.rewritten_sound.proofs.definite.LineLaws.{gives_defines, lines_length}
 use Rattle.rewritten_sound.proofs.definite.EdgeLaws.{counted_edge}
 
 -- ---- operands that an instruction uses

@@ -27,6 +27,7 @@ use Rattle.ir_ast.specs.Values.{Gives, outcome, outcome_type, value_types}
 use Rattle.ir_ast.specs.Faults.GroupShape.{number_at}
 use Rattle.ir_ast.specs.Faults.TypeClash.{Fits, IsTyped, RuleOf, asked}
 use Rattle.ir_ast.proofs.BaseLemmas.{one_base}
+use Rattle.ir_ast.proofs.OpLaws.{pointer_is as type_is}
 use Rattle.ir_cfg.specs.DefiniteUses.{text_place}
 use Rattle.definite_assign.proofs.TextLemmas.{stands_in_text}
 use Rattle.object_meaning.specs.Lines.{Line}
@@ -34,7 +35,7 @@ use Rattle.rewriting_forms.specs.Numbered.{among, base_at, lines_at, named, poin
 use Rattle.rewriting_laws.proofs.NameLemmas.{among_filter, among_here, among_there, filter_among}
 use Rattle.base_laws.proofs.TypeLaws.{type_of_given}
 use Rattle.base_definite.proofs.base_relations.GroupLaws.{given_at}
-use Rattle.rewritten_sound.proofs.definite.LineLaws.{line_from}
+use Rattle.base_definite.proofs.LinePlaces.{line_from}
 use Rattle.rewritten_sound.specs.Takes.{IsOwn, IsPointer, base_of}
 use Rattle.rewritten_sound.proofs.pairs.StayFacts.{numbered, table_there}
 
@@ -137,11 +138,7 @@ module _ (content : ModuleContent) (func : Function) (table : List Operand) (mer
   held_pointer b k v line entry at contained pointer is =
       let place = get_contained line.inst.bundle entry contained in
       let fits = all_at (λ (e : Ty × Operand). Fits (value_types func) e.1 e.0) line.inst.bundle place.0 entry (typed_line b k line at).bundle place.1 in
-      pointer_among func v (subst (λ (o : Operand). Fits (value_types func) o types.Ptr) is (subst (Fits (value_types func) entry.1) (pointer_ty entry.0 pointer) fits))
-    where
-      pointer_ty : (ty : Ty) → is_pointer ty ≡ true → ty ≡ types.Ptr
-      pointer_ty types.Ptr is = refl
-      pointer_ty ty is = absurd cc
+      pointer_among func v (subst (λ (o : Operand). Fits (value_types func) o types.Ptr) is (subst (Fits (value_types func) entry.1) (type_is entry.0 pointer) fits))
 
   -- a check gives nothing
   pub silent : All IsLine (instructions_of func.blocks) → (b k : ℕ) (line : Line) (passed : List Ty) → slice_get (lines_at func b) k ≡ Some line

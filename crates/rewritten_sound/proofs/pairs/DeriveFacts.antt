@@ -36,9 +36,9 @@ use Rattle.rewriting_laws.specs.Laws.{IsPlain}
 use Rattle.base_laws.proofs.TypeLaws.{type_of_given}
 use Rattle.base_definite.specs.Paths.{HasDefiniteBases}
 use Rattle.base_definite.proofs.base_paths.GivesLaws.{given_named}
-use Rattle.base_definite.specs.Relations.{IsReached}
+use Rattle.base_definite.proofs.LinePlaces.{line_from}
 use Rattle.rewritten_sound.specs.LeadsOut.{PhisAreBare}
-use Rattle.rewritten_sound.proofs.definite.LineLaws.{given_defines, line_from}
+use Rattle.rewritten_sound.proofs.definite.LineLaws.{given_defines}
 use Rattle.rewritten_sound.proofs.definite.UsedLaws.{uses_operand}
 use Rattle.pair_facts.specs.Lines.{operand_at, same_operand}
 use Rattle.rewritten_sound.specs.Takes.{Derives, IsOwn, IsPointer, Merges, base_of}
@@ -47,6 +47,7 @@ use Rattle.rewritten_sound.proofs.pairs.EdgeFacts.{operand_there}
 use Rattle.rewritten_sound.proofs.pairs.PhiFacts.{Shape, base_same, entry_of, gives_here, is_merged, is_own, is_stepped, merged_line, shape}
 use Rattle.rewritten_sound.proofs.pairs.StayFacts.{numbered, others}
 use Rattle.object_meaning.proofs.LineLaws.{given_is}
+use Rattle.ir_cfg.specs.Paths.{IsReached}
 
 -- the operands of a select
 select_fits : (values : List Ty) (given : List Operand) (ty : Ty) → AllZip (Fits values) given (types.Int 1 ∷ ty ∷ ty ∷ [])

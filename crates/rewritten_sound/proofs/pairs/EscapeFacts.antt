@@ -1,9 +1,8 @@
 -- What escapes by a line, by its operator: a pointer among its operands.
-use Rattle.std.proofs.Common.{◌≡◌, ℕ, suc, Bool, true, false, List, [], ◌∷◌, length, map, replicate, take, refl, ap, subst, ◌∙◌, inl, inr}
+use Rattle.std.proofs.Common.{◌≡◌, ℕ, suc, Bool, true, false, List, [], ◌∷◌, length, replicate, take, refl, ap, subst, ◌∙◌, inl, inr}
 use Rattle.std.specs.Prelude.{Some, slice_get, if◌then◌else◌}
 use Rattle.std.specs.List.{AllZip, Contains}
 use Rattle.std.proofs.lemmas.Bool.{true≢false}
-use Rattle.std.proofs.lemmas.List.{take-map}
 use Rattle.list_laws.proofs.Contents.{contains_cons, contains_none, contains_one}
 use Rattle.ir_ast.specs.declared.types.Ty.{Ty}
 use Rattle.ir_ast.specs.declared.types.Ty.TheVariants as types
@@ -118,10 +117,3 @@ module _ (values : List Ty) where
       → Contains (escaping (ops.Icmp pred) line) operand → PointerIn line.operands operand
   compared_pointer line pred operand form fits within =
       two_pointers line.ty line.operands operand (subst (λ (n : ℕ). AllZip (Fits values) line.operands (replicate n line.ty)) form.operand_count fits) within
-
--- what is stored, passed or returned by a renamed line is so by the line
-pub leaving_map : (f : Operand → Operand) (op : Op) (given : List Operand) → leaving op (map f given) ≡ map f (leaving op given)
-leaving_map f ops.Store given = take-map f 1 given
-leaving_map f (ops.Call callee kinds) given = refl
-leaving_map f ops.Ret given = refl
-leaving_map f op given = refl

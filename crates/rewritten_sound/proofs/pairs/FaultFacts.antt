@@ -3,11 +3,11 @@ use Rattle.std.proofs.Common.{◌≡◌, ℕ, zero, suc, ◌≤◌, Bool, true, 
 use Rattle.std.specs.Prelude.{Option, Some, None, slice_get}
 use Rattle.std.specs.List.{Contains, list_any, position, position_or_len}
 use Rattle.std.specs.Option.{option_map_or}
-use Rattle.std.proofs.lemmas.Bool.{cases_Bool, cases_eq, cases_lt, eq-eqb, ne_eqb, false≢true, true≢false, or_cases, or_left, or_right}
+use Rattle.std.proofs.lemmas.Bool.{cases_Bool, cases_eq, cases_lt, eq-eqb, ne_eqb, false≢true, true≢false, or_cases}
 use Rattle.std.proofs.lemmas.List.{length-map}
 use Rattle.std.proofs.lemmas.List.Sums.{prefix_len_passes}
 use Rattle.std.proofs.lemmas.Option.{same_Some, slice_get_within}
-use Rattle.list_laws.proofs.Contents.{contains_image, contains_none, get_contained}
+use Rattle.list_laws.proofs.Contents.{contains_image, contains_none}
 use Rattle.ir_ast.specs.declared.ops.Callee.{Callee}
 use Rattle.ir_ast.specs.declared.ops.Op.{Op}
 use Rattle.ir_ast.specs.declared.ops.Op.TheVariants as ops
@@ -25,22 +25,23 @@ use Rattle.ir_ast.specs.Faults.PhiEdges.{is_phi}
 use Rattle.object_meaning.specs.Frames.{is_member}
 use Rattle.object_meaning.specs.Jumps.{phi_count}
 use Rattle.object_meaning.specs.Lines.{Line}
-use Rattle.rewriting_forms.specs.Numbered.{among, base_at, is_call, line_at, lines_at, named, no_line, pointers}
-use Rattle.rewriting_forms.specs.Liveness.{any_held, is_live, is_live_after, is_use, live_list, live_table}
+use Rattle.rewriting_forms.specs.Numbered.{among, base_at, is_call, lines_at, named, no_line}
+use Rattle.rewriting_forms.specs.Liveness.{live_list, live_table}
 use Rattle.rewriting_forms.specs.Names.{Name, Names, Naming, names_at}
-use Rattle.rewriting_forms.specs.Rewritten.{Piece, entries, group, index_of, inserted_phi, plain, relocate_of, renamed, statepoint}
+use Rattle.rewriting_forms.specs.Rewritten.{Piece, entries, group, index_of, plain, relocate_of, renamed, statepoint}
 use Rattle.rewriting_forms.specs.Rewritten as forms
 use Rattle.rewriting_laws.specs.Laws.{Fits, IsNumbering, IsPlain}
 use Rattle.rewriting_laws.proofs.LiveLaws.{table_closed}
 use Rattle.rewriting_laws.proofs.NameLemmas.{line_is, names_owner}
 use Rattle.rewritten_sound.proofs.definite.NowLaws.{number}
+use Rattle.rewritten_sound.proofs.definite.ListedLaws as lists
 use Rattle.pair_facts.specs.Faults.{IsLostValue, IsOpenGroup, IsPlainCall, IsUnchecked}
 use Rattle.pair_facts.specs.Lines.{group_in, head_at, is_null, is_relocate, line_before, operand_at, same_operand}
 use Rattle.pair_facts.specs.Pairs.{Pairs, base_index, derived_index, has_base}
 use Rattle.pair_facts.specs.Paths.{pairs_at}
 use Rattle.pair_facts.specs.Uses.{Relocates, Use, Uses, accessed_at, checked, checks, checks_access, compared, compares, entries_at, escapes, escaping, is_checked, is_kept, relocates}
 use Rattle.rewritten_sound.specs.Takes.{HasPairs, IsBased, IsOwn}
-use Rattle.rewritten_sound.proofs.pairs.GroupFacts.{entries_now, entries_stand, entry_of, index_place, listed, relocate_there, relocated_has}
+use Rattle.rewritten_sound.proofs.pairs.GroupFacts.{entries_now, entries_stand, index_place, relocate_there, relocated_has}
 use Rattle.rewritten_sound.proofs.pairs.HoldFacts.{Holds, IsAlive, Stands, alive_from, based_stands, operand_map, same_again}
 use Rattle.rewritten_sound.proofs.pairs.LineFacts.{kept_operand}
 use Rattle.rewritten_sound.proofs.pairs.NowPlaces.{MemberOf, comes_from, from_call, from_inserted, from_member, from_plain, group_now, head_now, is_relocate as member_relocate, is_result, lines, member_head, member_of, plain_next, plain_now, start_of, written}
@@ -265,16 +266,8 @@ module _ (func : Function) (table : List Operand) (naming : Naming) (fits : Fits
   value_kept k line callee types stands op no_leaf entry contained pointer Null is = refl
   value_kept k line callee types stands op no_leaf entry contained pointer (Fun called) is = refl
   value_kept k line callee types stands op no_leaf entry contained pointer (Value value) is =
-      let v = value.0 in
-      let held = has.held b k value.0 line entry stands contained pointer is in
-      let place = get_contained line.inst.bundle entry contained in
-      let used : is_use func table value.0 entry.1 ≡ true = ap (is_use func table value.0) is ∙ or_left (eqb value.0 value.0) _ (eq-eqb value.0 value.0 refl) in
-      let holds : any_held func table value.0 line.inst ≡ true = any_passes_from_place (λ (e : Ty × Operand). is_use func table value.0 e.1) line.inst.bundle place.0 entry place.1 used in
-      let after : is_live_after func table b k value.0 ≡ true =
-      or_left (any_held func table value.0 (line_at func b k).inst) (is_live func table b (suc k) value.0) (ap (λ (l : Line). any_held func table value.0 l.inst) (line_is func b k line stands) ∙ holds) in
-      let in_list = listed func table naming fits room plain_form has b k line callee types stands op no_leaf value.0 held.0
-      (or_right (not (among value.0 (pointers func))) (is_live_after func table b k value.0) after) held.1 in
-      let entry_there = entry_of func table naming fits room plain_form has b k line callee types stands op no_leaf value.0 in_list in
+      let in_list = lists.held_listed func table b k line stands has.held entry contained pointer value.0 is in
+      let entry_there = lists.entry_of func table b k value.0 in_list in
       let relocate = relocate_there func table naming fits room plain_form has b k line callee types stands op no_leaf value.0 in_list in
       let index = index_place func table naming fits room plain_form has b k line callee types stands op no_leaf (named value.0) entry_there.0 entry_there.1 in
       let found : position (λ (e : Operand). same_operand e (named (to (names k value.0)))) (entries_of (head_line k line callee types).inst) ≡ Some entry_there.0 =

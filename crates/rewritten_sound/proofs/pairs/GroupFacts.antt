@@ -3,10 +3,10 @@ use Rattle.std.proofs.Common.{◌≡◌, ℕ, suc, Bool, true, false, not, eqb, 
 use Rattle.std.specs.Prelude.{Option, Some, slice_get}
 use Rattle.std.specs.List.{list_any, position}
 use Rattle.std.specs.Option.{option_map_or}
-use Rattle.std.proofs.lemmas.Bool.{and_from, and_parts, cases_Bool, eq-eqb, eqb-true, false≢true, or_left, or_right, not_from_false, not-true}
+use Rattle.std.proofs.lemmas.Bool.{and_from, and_parts, cases_Bool, eq-eqb, false≢true, or_left, or_right, not-true}
 use Rattle.std.proofs.lemmas.List.{length-map}
 use Rattle.std.proofs.lemmas.Option.{get_or_from_slice_get}
-use Rattle.list_laws.proofs.Places.{get_map, get_past, map_append}
+use Rattle.list_laws.proofs.Places.{get_map, map_append}
 use Rattle.ir_ast.specs.declared.ops.Callee.{Callee}
 use Rattle.ir_ast.specs.declared.ops.Op.{Op}
 use Rattle.ir_ast.specs.declared.ops.Op.TheVariants.{Call}
@@ -22,13 +22,14 @@ use Rattle.object_meaning.specs.Lines.{Line}
 use Rattle.rewriting_forms.specs.Numbered.{among, base_at, calls, gives, is_call, is_given, line_at, lines_at, named, pointers}
 use Rattle.rewriting_forms.specs.Liveness.{is_live_after, live_list, live_table}
 use Rattle.rewriting_forms.specs.Names.{Name, Naming, names_at, own, relocated}
-use Rattle.rewriting_forms.specs.Rewritten.{Piece, entries, group, index_of, relocate_of, renamed, result_of, statepoint}
+use Rattle.rewriting_forms.specs.Rewritten.{entries, group, index_of, relocate_of, renamed, statepoint}
 use Rattle.rewriting_forms.specs.Rewritten as forms
 use Rattle.rewriting_laws.specs.Laws.{Fits, IsPlain}
 use Rattle.rewriting_laws.proofs.LiveLaws.{table_closed}
-use Rattle.rewriting_laws.proofs.NameLemmas.{among_filter, filter_among, found, line_is, names_given, names_listed}
+use Rattle.rewriting_laws.proofs.NameLemmas.{among_filter, found, line_is, names_given, names_listed}
 use Rattle.rewritten_sound.proofs.definite.NowLaws.{number}
 use Rattle.rewritten_sound.proofs.definite.PieceLaws.{among_at, relocate_at, result_at, result_piece}
+use Rattle.rewritten_sound.proofs.definite.ListedLaws as lists
 use Rattle.pair_facts.specs.declared.bases.Base.{Base}
 use Rattle.pair_facts.specs.declared.bases.Base.TheVariants.{Any, Named}
 use Rattle.pair_facts.specs.Lines.{is_null, operand_at}
@@ -41,12 +42,6 @@ use Rattle.std.proofs.lemmas.Map.Keys.{any_passes_from_place}
 
 operand_here : (operands : List Operand) (k : ℕ) (o : Operand) → slice_get operands k ≡ Some o → operand_at operands k ≡ o
 operand_here operands k o is = get_or_from_slice_get operands k o (Int 0) is
-
-same_named : (o : Operand) (v : ℕ) → forms.same_operand o (named v) ≡ true → o ≡ named v
-same_named (Value id) v is = ap named (eqb-true id.0 v is)
-same_named (Int word) v is = absurd (false≢true is)
-same_named Null v is = absurd (false≢true is)
-same_named (Fun called) v is = absurd (false≢true is)
 
 same_null : (o : Operand) → forms.same_operand o Null ≡ true → o ≡ Null
 same_null (Value id) is = absurd (false≢true is)
@@ -95,11 +90,7 @@ module _ (func : Function) (table : List Operand) (naming : Naming) (fits : Fits
   -- ---- what is listed
 
   pub listed : (v : ℕ) → among v (pointers func) ≡ true → live_table func table b (suc k) v ≡ true → gives line v ≡ false → among v list ≡ true
-  listed v pointer alive none =
-      let after : is_live_after func table b k v ≡ true = truly (among v (pointers func)) (is_live_after func table b k v) pointer alive in
-      let kept : not (gives (line_at func b k) v) ≡ true = not_from_false (gives (line_at func b k) v) (ap (λ (l : Line). gives l v) (line_is func b k line stands) ∙ none) in
-      filter_among (λ (x : ℕ). is_live_after func table b k x && not (gives (line_at func b k) x)) v (pointers func) pointer
-      (and_from (is_live_after func table b k v) (not (gives (line_at func b k) v)) after kept)
+  listed v pointer alive none = lists.listed func table b k line stands v pointer (truly (among v (pointers func)) (is_live_after func table b k v) pointer alive) none
     where
       truly : (s t : Bool) → s ≡ true → (not s || t) ≡ true → t ≡ true
       truly true t is either = either
@@ -135,22 +126,12 @@ module _ (func : Function) (table : List Operand) (naming : Naming) (fits : Fits
 
   -- ---- entries by their indices
 
-  pub entry_of : (v : ℕ) → among v list ≡ true
-      → (place : ℕ) × (position (λ (entry : Operand). forms.same_operand entry (named v)) (entries func table b k) ≡ Some place) × (slice_get (entries func table b k) place ≡ Some (named v))
-  entry_of v is =
-      let place = among_at v list is in
-      let front : List Operand = if list_any (λ (x : ℕ). forms.is_null (base_at table x)) list then Null ∷ [] else [] in
-      let there = get_past (if list_any (λ (x : ℕ). forms.is_null (base_at table x)) list then Null ∷ [] else []) (map (λ (x : ℕ). named x) list) place.0
-      ∙ get_map (λ (x : ℕ). named x) list place.0 v place.1 in
-      let first = found (λ (entry : Operand). forms.same_operand entry (named v)) (entries func table b k) _ (named v) there (eq-eqb v v refl) in
-      (first.0, first.2, first.3 ∙ ap (λ o. Some o) (same_named first.1 v first.4))
-
   pub index_place : (o : Operand) (place : ℕ) → position (λ (entry : Operand). forms.same_operand entry o) (entries func table b k) ≡ Some place → index_of func table b k o ≡ place
   index_place o place is = ap (λ (p : Option ℕ). option_map_or (λ (x : ℕ). x) p 0) is
 
   pub entry_at : (v : ℕ) → among v list ≡ true → operand_at (entries_of head.inst) (index_of func table b k (named v)) ≡ at k (named v)
   entry_at v is =
-      let entry = entry_of v is in
+      let entry = lists.entry_of func table b k v is in
       ap (λ (os : List Operand). operand_at os (index_of func table b k (named v))) entries_now
       ∙ operand_map to (names_at func table naming b k) (entries func table b k) (index_of func table b k (named v))
       ∙ ap (at k) (ap (operand_at (entries func table b k)) (index_place (named v) entry.0 entry.1) ∙ operand_here (entries func table b k) entry.0 (named v) entry.2)

@@ -3,7 +3,7 @@ use Rattle.std.proofs.Common.{◌≡◌, ℕ, zero, suc, ◌<◌, Bool, true, fa
 use Rattle.std.specs.Prelude.{Option, Some, slice_get}
 use Rattle.std.specs.List.{range_with_len}
 use Rattle.std.specs.Option.{option_map_or}
-use Rattle.std.proofs.lemmas.Bool.{eq-eqb, eqb-true, ne_eqb}
+use Rattle.std.proofs.lemmas.Bool.{eq-eqb, ne_eqb}
 use Rattle.std.proofs.lemmas.Option.{none-some}
 use Rattle.list_laws.proofs.Places.{get_some}
 use Rattle.ir_ast.specs.declared.funcs.Arg.{Arg}
@@ -55,9 +55,6 @@ pub operand_map : (to : Name → ℕ) (names : Names) (operands : List Operand) 
 operand_map to names [] place = refl
 operand_map to names (o ∷ operands) zero = refl
 operand_map to names (o ∷ operands) (suc place) = operand_map to names operands place
-
-pub same_self : (v : ℕ) → same_operand (named v) (named v) ≡ true
-same_self v = eq-eqb v v refl
 
 -- and the other way round, but for functions
 pub same_again : (o other : Operand) → same_operand o other ≡ true → (to : Name → ℕ) (names : Names) → same_operand (renamed to names o) (renamed to names other) ≡ true

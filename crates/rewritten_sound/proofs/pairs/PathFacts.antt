@@ -1,25 +1,22 @@
 -- On every path to a place of the rewritten function each live pointer has its pair there.
-use Rattle.std.proofs.Common.{◌≡◌, ℕ, zero, suc, ◌+◌, ◌-◌, ◌<◌, ◌≤◌, cond, Bool, true, false, nat_lt, ◌&&◌, List, length, refl, sym, ap, subst, ◌∙◌, inl, inr, arith}
-use Rattle.std.specs.Prelude.{Option, Some, None, slice_get}
-use Rattle.std.specs.Option.{option_map_or}
-use Rattle.std.proofs.lemmas.Bool.{and_from, cases_Bool, cases_lt, eq-eqb, false≢true, le-ltb, lt-ltb}
+use Rattle.std.proofs.Common.{◌≡◌, ℕ, zero, suc, ◌+◌, ◌-◌, ◌≤◌, true, false, ◌&&◌, List, length, refl, sym, ap, subst, ◌∙◌, inl, inr, arith}
+use Rattle.std.specs.Prelude.{Some, slice_get}
+use Rattle.std.proofs.lemmas.Bool.{and_from, cases_Bool, cases_lt, eq-eqb}
 use Rattle.std.proofs.lemmas.List.{length-map}
-use Rattle.std.proofs.lemmas.List.Sums.{prefix_len-le-length, prefix_len_passes}
+use Rattle.std.proofs.lemmas.List.Sums.{prefix_len-le-length}
 use Rattle.list_laws.proofs.Places.{get_some}
 use Rattle.ir_ast.specs.declared.ops.Callee.{Callee}
-use Rattle.ir_ast.specs.declared.ops.Op.{Op}
-use Rattle.ir_ast.specs.declared.ops.Op.TheVariants.{Call, Phi}
+use Rattle.ir_ast.specs.declared.ops.Op.TheVariants.{Call}
 use Rattle.ir_ast.specs.declared.ops.Operand.{Operand}
 use Rattle.ir_ast.specs.declared.ops.Operand.TheVariants.{Value, Int, Null, Fun}
 use Rattle.ir_ast.specs.declared.types.Ty.{Ty}
 use Rattle.ir_ast.specs.Callees.{is_leaf}
 use Rattle.ir_ast.specs.Blocks.{BasicBlock}
 use Rattle.ir_ast.specs.Funcs.{Function}
-use Rattle.ir_ast.specs.Faults.GroupShape.{entries_of, is_statepoint}
+use Rattle.ir_ast.specs.Faults.GroupShape.{entries_of}
 use Rattle.ir_ast.specs.Faults.PhiEdges.{is_phi}
-use Rattle.ir_cfg.specs.Graphs.{Graph, graph_of}
+use Rattle.ir_cfg.specs.Graphs.{Graph}
 use Rattle.ir_cfg.specs.Graphs as graphs
-use Rattle.object_meaning.specs.Frames.{is_member}
 use Rattle.object_meaning.specs.Jumps.{phi_count}
 use Rattle.object_meaning.specs.Lines.{Line}
 use Rattle.rewriting_forms.specs.Numbered.{among, base_at, is_call, lines_at, named, pointers}
@@ -34,10 +31,10 @@ use Rattle.rewritten_sound.proofs.definite.PieceLaws.{whole_length}
 use Rattle.rewritten_sound.proofs.definite.UsedLaws.{edge_block}
 use Rattle.pair_facts.specs.declared.bases.Base.{Base}
 use Rattle.pair_facts.specs.declared.bases.Base.TheVariants.{Any, Named}
-use Rattle.pair_facts.specs.Lines.{group_in, head_at, line_before, line_in, no_line, phis_in}
+use Rattle.pair_facts.specs.Lines.{group_in, line_before, phis_in}
 use Rattle.pair_facts.specs.Lines as facts
 use Rattle.pair_facts.specs.Pairs.{Pairs, after, after_group, along, at_entry, is_pointer_argument, on_edge, own_pairs}
-use Rattle.pair_facts.specs.Paths.{Arrives, behind, pairs_at, pairs_at_end, start, went}
+use Rattle.pair_facts.specs.Paths.{Arrives, pairs_at, pairs_at_end, start, went}
 use Rattle.rewritten_sound.specs.Takes.{HasPairs, base_of}
 use Rattle.rewritten_sound.proofs.pairs.EdgeFacts.{alive_along, edge_law}
 use Rattle.rewritten_sound.proofs.pairs.GroupFacts.{group_holds}
@@ -45,38 +42,7 @@ use Rattle.rewritten_sound.proofs.pairs.HoldFacts.{Holds, IsAlive, alive_from, b
 use Rattle.rewritten_sound.proofs.pairs.LineFacts.{line_holds}
 use Rattle.rewritten_sound.proofs.pairs.NowPlaces.{call_next, group_now, head_now, lines, member_head, phis_now, plain_head, plain_next, plain_now, start_of, written}
 use Rattle.object_meaning.proofs.LineLaws.{line_is}
-use Rattle.pair_facts.proofs.OwnLaws.{head_none}
-use Rattle.ir_ast.proofs.OpLaws.{phi_outside}
-
--- ---- behind a line
-
-abbrev otherwise : List Line → ℕ → Pairs → Pairs
-otherwise lines place pairs = cond (nat_lt place (phi_count lines)) pairs (after pairs (line_before lines place) (line_in lines place))
-
-behind_grouped : (lines : List Line) (place head : ℕ) (pairs : Pairs) → head_at lines place ≡ Some head
-    → behind lines place pairs ≡ after_group (entries_of (line_in lines head).inst) (group_in lines head)
-behind_grouped lines place head pairs is =
-    ap (λ (found : Option ℕ). option_map_or (λ (head : ℕ). after_group (entries_of (line_in lines head).inst) (group_in lines head)) found (otherwise lines place pairs)) is
-
-behind_phi : (lines : List Line) (place : ℕ) (pairs : Pairs) → head_at lines place ≡ None → place < phi_count lines → behind lines place pairs ≡ pairs
-behind_phi lines place pairs is below =
-    ap (λ (found : Option ℕ). option_map_or (λ (head : ℕ). after_group (entries_of (line_in lines head).inst) (group_in lines head)) found (otherwise lines place pairs)) is
-    ∙ ap (λ (t : Bool). cond t pairs (after pairs (line_before lines place) (line_in lines place))) (lt-ltb place (phi_count lines) below)
-
-behind_plain : (lines : List Line) (place : ℕ) (pairs : Pairs) → head_at lines place ≡ None → phi_count lines ≤ place
-    → behind lines place pairs ≡ after pairs (line_before lines place) (line_in lines place)
-behind_plain lines place pairs is le =
-    ap (λ (found : Option ℕ). option_map_or (λ (head : ℕ). after_group (entries_of (line_in lines head).inst) (group_in lines head)) found (otherwise lines place pairs)) is
-    ∙ ap (λ (t : Bool). cond t pairs (after pairs (line_before lines place) (line_in lines place))) (le-ltb place (phi_count lines) le)
-
--- phis have acted on the edge
-front_stays : (lines : List Line) (front : Pairs) (place : ℕ) → place ≤ phi_count lines → pairs_at lines front place ≡ front
-front_stays lines front zero within = refl
-front_stays lines front (suc place) within =
-    let passes = prefix_len_passes (λ (line : Line). is_phi line.inst.op) lines place no_line (omega (arith, within)) in
-    let apart = phi_outside (line_in lines place).inst.op passes in
-    behind_phi lines place (pairs_at lines front place) (head_none lines place apart.0 apart.1) (omega (arith, within))
-    ∙ front_stays lines front place (omega (arith, within))
+use Rattle.pair_facts.proofs.PathLaws.{behind_grouped, behind_plain, front_stays}
 
 module _ (func : Function) (table : List Operand) (naming : Naming) (fits : Fits func table naming (live_table func table)) (now_room room : ℕ)
     (numbers : IsNumbering func table naming.joins (number func table naming) now_room) (plain_form : IsPlain func room) (has : HasPairs func table (live_table func table)) where

@@ -35,6 +35,7 @@ use Rattle.ir_ast.proofs.BaseLemmas.{one_base, same_instruction}
 use Rattle.ir_cfg.specs.DefiniteUses.{Stands, text_place}
 use Rattle.ir_cfg.proofs.KeepsCounts.{count_found, count_some}
 use Rattle.ir_cfg.proofs.KeepsPaths.{succs_at}
+use Rattle.ir_cfg.specs.Paths.{IsReached}
 use Rattle.definite_assign.proofs.TextLemmas.{one_definition, stands_in_text, text_next}
 use Rattle.object_meaning.specs.Jumps.{phi_count}
 use Rattle.object_meaning.specs.Lines.{Line}
@@ -46,10 +47,9 @@ use Rattle.rewriting_laws.proofs.NameLemmas.{at_rest, found}
 use Rattle.base_laws.proofs.TypeLaws.{type_of_given}
 use Rattle.base_definite.specs.Paths.{HasDefiniteBases}
 use Rattle.base_definite.proofs.base_paths.GivesLaws.{defines_gives, given_named, gives_at, one_text_place, one_value, stands_one}
-use Rattle.base_definite.specs.Relations.{IsReached}
 use Rattle.rewritten_sound.specs.LeadsOut.{PhisAreBare}
 use Rattle.rewritten_sound.proofs.definite.EdgeLaws.{edge_from}
-use Rattle.rewritten_sound.proofs.definite.LineLaws.{given_defines, line_forth, line_from}
+use Rattle.rewritten_sound.proofs.definite.LineLaws.{given_defines}
 use Rattle.rewritten_sound.proofs.definite.UsedLaws.{edge_block, phi_right, uses_operand}
 use Rattle.pair_facts.specs.Lines.{operand_at, phis_in}
 use Rattle.pair_facts.specs.Pairs.{along, incoming}
@@ -63,6 +63,7 @@ use Rattle.ir_ast.proofs.OpLaws.{merge_goes_on, phi_is}
 use Rattle.list_laws.proofs.Tests.{prefix_passes}
 use Rattle.rewriting_laws.proofs.JumpLemmas.{prefix_within}
 use Rattle.base_definite.proofs.base_paths.StayLaws.{last_of_block, text_before}
+use Rattle.base_definite.proofs.LinePlaces.{line_from, line_forth}
 
 -- ---- the line before a merge
 

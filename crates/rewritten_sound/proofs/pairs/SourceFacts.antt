@@ -1,11 +1,11 @@
--- The rewritten module of a source module whose functions take pointers with their bases is verified.
+-- The rewritten module of a source module whose functions take pointers with their bases is verified, and what bundles hold there.
 use Rattle.std.proofs.Common.{◌≡◌, ℕ, true, List, refl, sym, ap, subst, ◌∙◌}
 use Rattle.std.specs.Prelude.{Option, Some, None, slice_get}
 use Rattle.std.specs.List.{All}
 use Rattle.std.specs.Option.{option_map}
 use Rattle.std.proofs.lemmas.Bool.{false≢true}
 use Rattle.std.proofs.lemmas.Option.{get_or_from_slice_get, none-some, same_Some}
-use Rattle.list_laws.proofs.Contents.{all_at}
+use Rattle.list_laws.proofs.Contents.{all_at, all_from_at}
 use Rattle.ir_ast.specs.declared.modules.Form.TheVariants.{Rewritten}
 use Rattle.ir_ast.specs.declared.ops.Op.{Op}
 use Rattle.ir_ast.specs.declared.ops.Op.TheVariants as ops
@@ -20,13 +20,14 @@ use Rattle.ir_ast.specs.Modules.{ModuleContent}
 use Rattle.ir_ast.specs.Scope.{scope_of}
 use Rattle.ir_cfg.specs.TargetModules.{IsTargetModule}
 use Rattle.ir_cfg.specs.TypedModules.{IsTypedFunction}
+use Rattle.ir_cfg.specs.Paths.{IsReached}
 use Rattle.definite_assign.proofs.TextLemmas.{stands_in_text}
 use Rattle.object_meaning.specs.Lines.{register_count}
 use Rattle.base_forms.specs.Polls.{placed}
 use Rattle.base_forms.specs.Based.{base_table, based, based_module}
 use Rattle.base_laws.proofs.MeaningLaws.{found_now}
 use Rattle.base_definite.specs.Paths.{HasDefiniteBases}
-use Rattle.base_definite.specs.Relations.{IsReached, before}
+use Rattle.base_definite.specs.Relations.{before}
 use Rattle.base_definite.proofs.base_relations.TableInstance.{table_has_bases}
 use Rattle.base_definite.proofs.BasesInstance.{based_has_definite_bases}
 use Rattle.rewriting_forms.specs.Liveness.{live_table}
@@ -39,11 +40,11 @@ use Rattle.rewriting_laws.proofs.Whole.{get_by, modules_by}
 use Rattle.rewritten_sound.specs.LeadsOut.{PhisAreBare}
 use Rattle.rewritten_sound.specs.Definite.{ChoiceFits, IsReachedSource, base_tables, rewritten_source_by}
 use Rattle.rewritten_sound.proofs.definite.Instance.{based_is_before, is_ready}
-use Rattle.rewritten_sound.proofs.shape.TargetLaws.{based_is_target}
+use Rattle.rewritten_sound.proofs.shape.BasedTarget.{based_is_target}
 use Rattle.pair_facts.specs.Faults.{FaultAt, IsVerified}
 use Rattle.rewritten_sound.specs.Pairs.{HasTypedBases, TakesBases}
-use Rattle.rewritten_sound.specs.Takes.{HasPairs}
-use Rattle.rewritten_sound.proofs.pairs.PairsFacts.{bases_have_pairs}
+use Rattle.rewritten_sound.specs.Takes.{HasPairs, HoldsOthers}
+use Rattle.rewritten_sound.proofs.pairs.PairsFacts.{bases_have_pairs, holds_others}
 use Rattle.rewritten_sound.proofs.pairs.Verdict.{fitting_is_verified}
 use Rattle.ir_ast.proofs.OpLaws.{phi_is}
 
@@ -103,6 +104,9 @@ module _ (content : ModuleContent) (is : IsReachedSource content) (number : ℕ)
     pub typed_there : All (IsTyped (scope_of (based_module content) made)) (instructions_of made.blocks)
     typed_there = types.lines
 
+    pub others_there : HoldsOthers made
+    others_there = holds_others (based_module content) made before (base_table (placed func)) bases_there table_there phis_there bare_there reached_there lines_there typed_there
+
     typed_bases : TakesBases func → HasTypedBases (based_module content) made before (base_table (placed func)) (register_count (based_module content) number)
     typed_bases takes = record {
       plain = subst (λ (f : Function). IsPlain f (register_count (based_module content) number)) func_is ((based_is_before content is (base_tables content)).plain number);
@@ -158,3 +162,12 @@ pub taking_is_verified : (content : ModuleContent) → IsReachedSource content �
     → IsVerified (rewritten_source_by content choose)
 taking_is_verified content is choose fitting takes number block place code func at fault =
     verified_at content is choose fitting number takes func (slice_get content.funcs number) refl at block place code fault
+
+-- the bundles of the module with bases hold other pointers than their lines give
+pub all_hold_others : (content : ModuleContent) → IsReachedSource content → All HoldsOthers (based_module content).funcs
+all_hold_others content is = all_from_at HoldsOthers (based_module content).funcs (λ number now at. by number now (slice_get content.funcs number) refl at)
+  where
+    by : (number : ℕ) (now : Function) (here : Option Function) → slice_get content.funcs number ≡ here → slice_get (based_module content).funcs number ≡ Some now → HoldsOthers now
+    by number now None none at = absurd (none-some now (sym (found_now content number None none) ∙ at))
+    by number now (Some func) found at =
+        subst HoldsOthers (same_Some (based (placed func)) now (sym (found_now content number (Some func) found) ∙ at)) (others_there content is number func found)

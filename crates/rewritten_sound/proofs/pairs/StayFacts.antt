@@ -20,7 +20,7 @@ use Rattle.ir_ast.specs.Types.{is_pointer}
 use Rattle.ir_ast.specs.Values.{definition_type, definitions_of, value_types}
 use Rattle.ir_ast.specs.Faults.PhiEdges.{PhisAreRight, is_phi}
 use Rattle.ir_cfg.specs.Graphs.{graph_of}
-use Rattle.ir_cfg.specs.Paths.{Path, along, at_entry}
+use Rattle.ir_cfg.specs.Paths.{Path, along, at_entry, IsReached}
 use Rattle.ir_cfg.specs.DefiniteUses.{text_place}
 use Rattle.object_meaning.specs.Lines.{Line}
 use Rattle.rewriting_forms.specs.Numbered.{among, base_at, gives, line_at, lines_at, named, pointers}
@@ -32,9 +32,9 @@ use Rattle.base_definite.specs.Paths.{HasDefiniteBases}
 use Rattle.base_definite.proofs.base_paths.GivesLaws.{defines_gives, given_high}
 use Rattle.base_definite.proofs.base_paths.StayLaws.{base_first, derived_high}
 use Rattle.base_definite.proofs.base_paths.UndefinedLaws.{Undefined, at_first, behind_line, first_time, undefined_unused}
-use Rattle.base_definite.specs.Relations.{IsReached}
+use Rattle.base_definite.proofs.LinePlaces.{line_from}
 use Rattle.rewritten_sound.specs.LeadsOut.{PhisAreBare}
-use Rattle.rewritten_sound.proofs.definite.LineLaws.{given_defines, gives_defines, line_from}
+use Rattle.rewritten_sound.proofs.definite.LineLaws.{given_defines, gives_defines}
 use Rattle.rewritten_sound.proofs.definite.UsedLaws.{edge_block, held_used, in_table, live_defined, operand_used, phis_agree, use_undefined}
 use Rattle.rewritten_sound.specs.Takes.{IsOwn, IsPointer, base_of}
 use Rattle.object_meaning.proofs.LineLaws.{given_is}

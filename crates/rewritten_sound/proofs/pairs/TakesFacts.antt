@@ -30,7 +30,9 @@ use Rattle.ir_ast.specs.Faults.DerivedEscapes.{DerivedStay, KeepsDerived, leavin
 use Rattle.ir_ast.specs.Faults.PointerOrder.{orders_pointers}
 use Rattle.ir_ast.specs.Faults.Reserved.{IsSource}
 use Rattle.ir_ast.specs.Faults.TypeClash.{Fits, IsTyped, asked}
+use Rattle.ir_ast.proofs.OpLaws.{leaving_map}
 use Rattle.ir_cfg.specs.DefiniteUses.{Stands, text_place}
+use Rattle.ir_cfg.specs.Paths.{IsReached}
 use Rattle.definite_assign.proofs.TextLemmas.{stands_in_text}
 use Rattle.object_meaning.specs.Accesses.{cell_of}
 use Rattle.object_meaning.specs.Lines.{Line, after_all}
@@ -41,17 +43,17 @@ use Rattle.base_forms.specs.Inserted.{new_number, renumbered}
 use Rattle.base_forms.specs.Polls.{placed}
 use Rattle.base_forms.proofs.DerivedLaws.{found_any, marked_derived}
 use Rattle.base_laws.proofs.LineLaws.{IsReady}
-use Rattle.base_laws.proofs.PlacedLaws.{all_placed, definitions_placed}
+use Rattle.base_forms.proofs.PlacedLaws.{all_placed, definitions_placed}
 use Rattle.base_laws.proofs.ReadyLaws.{renamings}
-use Rattle.base_definite.specs.Relations.{IsReached, before}
+use Rattle.base_definite.specs.Relations.{before}
 use Rattle.base_definite.proofs.base_relations.BaseLaws.{derived_back, relation}
 use Rattle.base_definite.proofs.base_relations.EndLaws.{no_step}
 use Rattle.base_definite.proofs.base_relations.GroupLaws.{FoundIn, found_in}
 use Rattle.base_definite.proofs.base_relations.TableInstance.{all_ready, ends_here, is_here, pointers}
 use Rattle.base_definite.proofs.base_relations.ValueLaws.{one_number}
+use Rattle.base_definite.proofs.LinePlaces.{line_from, line_forth}
 use Rattle.rewriting_forms.specs.Numbered.{lines_at}
 use Rattle.rewritten_sound.specs.Definite.{IsReachedSource}
-use Rattle.rewritten_sound.proofs.definite.LineLaws.{line_forth, line_from}
 use Rattle.rewritten_sound.proofs.definite.UsedLaws.{uses_operand}
 use Rattle.pair_facts.specs.Lines.{operand_at, same_operand}
 use Rattle.pair_facts.specs.Uses.{Use, accessed_at, checked, checks_access, compared, escaping, is_checked, use_at}
@@ -60,7 +62,7 @@ use Rattle.rewriting_forms.specs.Names.{naming_of}
 use Rattle.rewritten_sound.proofs.definite.Instance.{source_fits}
 use Rattle.rewritten_sound.specs.Takes.{IsBased, IsOwn, base_of}
 use Rattle.rewritten_sound.proofs.pairs.BaseFacts.{fits_pointer, underived_own}
-use Rattle.rewritten_sound.proofs.pairs.EscapeFacts.{compared_pointer, compared_type, leaving_map, left_pointer, no_checked, no_compared, no_source_takes, takes_pairs}
+use Rattle.rewritten_sound.proofs.pairs.EscapeFacts.{compared_pointer, compared_type, left_pointer, no_checked, no_compared, no_source_takes, takes_pairs}
 use Rattle.rewritten_sound.proofs.pairs.MadeFacts.{MadeBlock, MadeLine, accesses, block_made, checking, comparing, group_stands, is_compare, kept, made_lines, merging, negating, plain_compare}
 use Rattle.rewritten_sound.proofs.pairs.PhiFacts.{base_same}
 use Rattle.rewritten_sound.proofs.pairs.SourceFacts.{bare_there, bases_there, lines_there, phis_there, reached_there, table_there, taking_is_verified, typed_there}

@@ -9,7 +9,6 @@ use Rattle.object_meaning.specs.Lines.{Line}
 use Rattle.rewriting_forms.specs.Liveness.{live_table}
 use Rattle.rewriting_forms.specs.Names.{Naming}
 use Rattle.rewriting_laws.specs.Laws.{Fits, IsNumbering, IsPlain}
-use Rattle.rewritten_sound.proofs.definite.LineLaws.{line_from}
 use Rattle.rewritten_sound.proofs.definite.NowLaws.{block_now, lines_now_are, now, number}
 use Rattle.pair_facts.specs.declared.bases.Base.{Base}
 use Rattle.pair_facts.specs.declared.bases.Base.TheVariants.{Any, Named}
@@ -23,6 +22,7 @@ use Rattle.rewritten_sound.proofs.pairs.FaultFacts.{no_lost_value, no_open_group
 use Rattle.rewritten_sound.proofs.pairs.HoldFacts.{Stands}
 use Rattle.rewritten_sound.proofs.pairs.NowPlaces.{lines}
 use Rattle.rewritten_sound.proofs.pairs.PathFacts.{arrives_holds}
+use Rattle.base_definite.proofs.LinePlaces.{line_from}
 
 module _ (func : Function) (table : List Operand) (naming : Naming) (fits : Fits func table naming (live_table func table)) (now_room room : ℕ)
     (numbers : IsNumbering func table naming.joins (number func table naming) now_room) (plain_form : IsPlain func room) (has : HasPairs func table (live_table func table)) where

@@ -37,6 +37,7 @@ use Rattle.ir_ast.specs.Values.{Definition, definition_type, definitions_of, val
 use Rattle.ir_ast.specs.Widths.{IsWidth}
 use Rattle.ir_ast.specs.Faults.TypeClash.{Fits, IsTyped, asked}
 use Rattle.ir_cfg.specs.SourceModules.{IsSourceModule}
+use Rattle.ir_cfg.proofs.UsedLaws.{values_known}
 use Rattle.object_meaning.specs.Accesses.{cell_of}
 use Rattle.object_meaning.specs.Lines.{after_all}
 use Rattle.base_forms.specs.Polls.{placed, placed_from, poll_call}
@@ -47,14 +48,14 @@ use Rattle.base_forms.specs.Lines.{merged_bases, operand_at}
 use Rattle.base_forms.specs.Based.{base_line, based, based_blocks, based_module, check, compared, insertion, kept_line, lines_for, merged, negation, same_call}
 use Rattle.base_laws.proofs.LineLaws.{IsReady}
 use Rattle.base_laws.proofs.MeaningLaws.{found_now}
-use Rattle.base_laws.proofs.PlacedLaws.{all_placed, definitions_placed}
+use Rattle.base_forms.proofs.PlacedLaws.{all_placed, definitions_placed}
 use Rattle.base_laws.proofs.ReadyLaws.{renamings}
 use Rattle.base_laws.proofs.TypeLaws.{IsTypedLine, compares_pointers, phi_of_pointers, select_of_pointers}
 use Rattle.base_definite.proofs.base_relations.GroupLaws.{group_of, located, value_at}
 use Rattle.base_definite.proofs.base_relations.TableInstance.{all_ready, is_here, pointers}
 use Rattle.rewritten_sound.specs.WellFormed.{Carries, CarriesEntry, IsWellFormed}
 use Rattle.rewritten_sound.proofs.shape.BasedTypes.{base_fits, line_type, now_fits, type_kept}
-use Rattle.rewritten_sound.proofs.shape.KeptLaws.{AreAlike, values_known, well_carried}
+use Rattle.rewritten_sound.proofs.shape.KeptLaws.{AreAlike, well_carried}
 use Rattle.rewritten_sound.proofs.shape.PassLaws.{no_items}
 use Rattle.list_laws.proofs.Places.{get_joined}
 

@@ -6,11 +6,10 @@ use Rattle.std.specs.Fmt.{decimal}
 use Rattle.std.proofs.lemmas.Bool.{or_left, true≢false}
 use Rattle.std.proofs.lemmas.Fmt.{decimal_is_IsNumeral}
 use Rattle.std.proofs.lemmas.List.{length-append, length-map}
-use Rattle.std.proofs.lemmas.List.Elements.{All-append, All-cons, All-nil}
+use Rattle.std.proofs.lemmas.List.Elements.{All-append, All-cons, All-nil, All-head, All-tail}
 use Rattle.std.proofs.lemmas.List.Sums.{count_by-le-length, length-filter}
 use Rattle.list_laws.proofs.Contents.{all_at, all_back, all_from_at, all_front}
 use Rattle.list_laws.proofs.Places.{get_map, map_back}
-use Rattle.renaming_laws.proofs.ListLaws.{all_first, all_rest}
 use Rattle.sp_text.specs.Bytes.{in_name}
 use Rattle.ir_ast.specs.declared.funcs.Arg.{Arg}
 use Rattle.ir_ast.specs.declared.modules.Form.TheVariants.{Rewritten, Source}
@@ -43,13 +42,13 @@ use Rattle.ir_cfg.specs.Statepoints.{IdIsWord}
 use Rattle.ir_cfg.specs.TypedModules.{IsTypedFunction, IsTypedModule}
 use Rattle.ir_cfg.proofs.KeepsForms.{all_flat, flat_all}
 use Rattle.object_meaning.specs.Lines.{after_all, following, retreats}
+use Rattle.object_meaning.proofs.GivenLaws.{has_result, definition_count}
 use Rattle.base_forms.specs.Polls.{placed, placed_from, poll_call, polled}
 use Rattle.base_forms.specs.DerivedMarks.{derived_marks, uses_marked}
 use Rattle.base_forms.specs.Inserted.{by_line, is_merged, is_negated}
 use Rattle.base_forms.specs.Based.{base_line, based, based_blocks, based_insts, based_module, compared, kept_line, lines_for}
 use Rattle.base_laws.specs.BeforeLiveness.{IsBeforeLiveness, IsPlainLine}
-use Rattle.base_laws.proofs.NumberLaws.{definition_count}
-use Rattle.base_laws.proofs.PlacedLaws.{definitions_placed, has_result}
+use Rattle.base_forms.proofs.PlacedLaws.{definitions_placed}
 use Rattle.base_laws.proofs.ReadyLaws.{renamings}
 use Rattle.base_laws.proofs.ShapeLaws.{graph_now, in_shape}
 use Rattle.base_definite.proofs.base_relations.GroupLaws.{text_is}
@@ -167,10 +166,10 @@ module _ (P : List ℕ → Type 0) (bases : (n : ℕ) → n < 2 ^ 64 → P (base
       → All P (spread merges negates from_bases from_sames all)
   all_spread from_bases from_sames [] few fewer all = All-nil P
   all_spread from_bases from_sames (given ∷ rest) few fewer all =
-      by (merges given) (negates given) (λ more. λ less. λ more_is. λ less_is. all_spread (from_bases + more) (from_sames + less) rest (omega arith) (omega arith) (all_rest (λ (each : Definition). P (definition_name each)) given rest all))
+      by (merges given) (negates given) (λ more. λ less. λ more_is. λ less_is. all_spread (from_bases + more) (from_sames + less) rest (omega arith) (omega arith) (All-tail (λ (each : Definition). P (definition_name each)) given rest all))
     where
       here : P (definition_name given)
-      here = all_first (λ (each : Definition). P (definition_name each)) given rest all
+      here = All-head (λ (each : Definition). P (definition_name each)) given rest all
 
       base_here : P (base_name from_bases)
       base_here = bases from_bases (omega arith)
@@ -371,7 +370,7 @@ module _ (content : ModuleContent) (source : IsSourceModule content) where
 
   same_head : (P : Function → Type 0) → ((func : Function) → P func → P (made_of func)) → (funcs : List Function) → All P funcs → All P (map made_of funcs)
   same_head P each [] all = All-nil P
-  same_head P each (func ∷ funcs) all = All-cons P (made_of func) (map made_of funcs) (each func (all_first P func funcs all)) (same_head P each funcs (all_rest P func funcs all))
+  same_head P each (func ∷ funcs) all = All-cons P (made_of func) (map made_of funcs) (each func (All-head P func funcs all)) (same_head P each funcs (All-tail P func funcs all))
 
   names_same : (funcs : List Function) → map (λ (func : Function). func.name) (map made_of funcs) ≡ map (λ (func : Function). func.name) funcs
   names_same [] = refl

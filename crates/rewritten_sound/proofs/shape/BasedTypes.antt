@@ -32,7 +32,6 @@ use Rattle.base_forms.specs.Based.{base_line, based, check, compared, kept_line,
 use Rattle.renaming_laws.specs.Renamed.{Renaming}
 use Rattle.base_laws.proofs.LineLaws.{IsReady}
 use Rattle.base_laws.proofs.NumberLaws.{argument_keeps, number_alone, number_behind, renaming_of}
-use Rattle.base_laws.proofs.PlacedLaws.{has_result}
 use Rattle.base_laws.proofs.TypeLaws.{IsTypedLine, MarksPointers, all_given, merges_pointers, type_of_given}
 use Rattle.base_definite.proofs.base_paths.GivesLaws.{gives_at}
 use Rattle.base_definite.proofs.base_relations.GroupLaws.{given_at, group_of, line_number, line_stands, start_at, value_at, value_is}
@@ -40,6 +39,7 @@ use Rattle.base_definite.proofs.base_relations.ValueLaws.{merged_true}
 use Rattle.base_definite.proofs.BasedLaws.{ends_so}
 use Rattle.base_definite.proofs.CutLaws.{results_in}
 use Rattle.rewritten_sound.proofs.shape.FunctionLaws.{argument_at}
+use Rattle.object_meaning.proofs.GivenLaws.{has_result}
 
 -- ---- the last line for an instruction gives what it gives
 

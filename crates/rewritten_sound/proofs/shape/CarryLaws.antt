@@ -3,9 +3,8 @@ use Rattle.std.proofs.Common.{◌≡◌, ℕ, zero, suc, ◌<◌, Bool, true, fa
 use Rattle.std.specs.Prelude.{Some, slice_get}
 use Rattle.std.specs.List.{All, AllZip, list_all}
 use Rattle.std.proofs.lemmas.Bool.{false≢true}
-use Rattle.std.proofs.lemmas.List.Elements.{All-cons, All-nil}
+use Rattle.std.proofs.lemmas.List.Elements.{All-cons, All-nil, All-head, All-tail}
 use Rattle.std.proofs.lemmas.Slice.Zip.{AllZip-long}
-use Rattle.renaming_laws.proofs.ListLaws.{all_first, all_rest}
 use Rattle.ir_ast.specs.declared.types.Ty.{Ty}
 use Rattle.ir_ast.specs.declared.ops.Callee.{Callee}
 use Rattle.ir_ast.specs.declared.ops.Callee.TheVariants as callees
@@ -236,8 +235,8 @@ module _ (scope after : Scope) (sees : SeesAlike scope after) where
   entries_fit (entry ∷ given) [] carries fits = absurd carries
   entries_fit (entry ∷ given) (other ∷ others) carries fits =
       All-cons (EntryFits after.values) other others
-      (subst (λ ty. Fits after.values other.1 ty) (sym (carries.0).0) (fits_carried entry.1 other.1 entry.0 (carries.0).1 (all_first (EntryFits scope.values) entry given fits)))
-      (entries_fit given others carries.1 (all_rest (EntryFits scope.values) entry given fits))
+      (subst (λ ty. Fits after.values other.1 ty) (sym (carries.0).0) (fits_carried entry.1 other.1 entry.0 (carries.0).1 (All-head (EntryFits scope.values) entry given fits)))
+      (entries_fit given others carries.1 (All-tail (EntryFits scope.values) entry given fits))
 
   module _ (inst other : Instruction) (carries : LineCarries scope.values after.values inst other) where
     fun_stays : (k : ℕ) (o : Operand) → ((to : Operand) → Carries scope.values after.values o to → to ≡ o) → slice_get inst.operands k ≡ Some o → slice_get other.operands k ≡ Some o

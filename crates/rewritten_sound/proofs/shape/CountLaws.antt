@@ -23,6 +23,7 @@ use Rattle.ir_cfg.specs.Statepoints.{is_relocate, relocates_of}
 use Rattle.definite_assign.proofs.TextLemmas.{one_definition, one_home}
 use Rattle.object_meaning.specs.Frames.{is_member}
 use Rattle.object_meaning.specs.Lines.{Line}
+use Rattle.object_meaning.proofs.GivenLaws.{definition_count}
 use Rattle.rewriting_forms.specs.Numbered.{lines_at, pointers}
 use Rattle.rewriting_forms.specs.Liveness.{live_list}
 use Rattle.rewriting_forms.specs.Names as forms
@@ -30,13 +31,13 @@ use Rattle.rewriting_forms.specs.Names.{Name, Naming}
 use Rattle.rewriting_forms.specs.Rewritten.{Piece, expanded, group, inserted_phi, joined_at, names_of, piece_inst, plain, relocate_of, result_of, rewritten_blocks, statepoint}
 use Rattle.rewriting_laws.proofs.JumpLemmas.{one_piece}
 use Rattle.rewriting_laws.proofs.NameLemmas.{at_rest, call_or_not, is_none, is_one}
-use Rattle.base_laws.proofs.NumberLaws.{definition_count}
-use Rattle.rewritten_sound.proofs.definite.LineLaws.{line_from, lines_length}
+use Rattle.rewritten_sound.proofs.definite.LineLaws.{lines_length}
 use Rattle.rewritten_sound.proofs.definite.NowLaws.{defines_piece, insts_now, now, number, pieces, text}
 use Rattle.rewritten_sound.proofs.definite.PieceLaws.{call_pieces, for_line, offset, piece_at, pieces_for}
 use Rattle.rewritten_sound.proofs.shape.GroupLaws.{entries_count, only_one}
 use Rattle.rewritten_sound.proofs.shape.PassLaws.{IsNamed, entries_few, list_few, pointers_few}
 use Rattle.rewritten_sound.proofs.shape.SpellLaws.{names_are}
+use Rattle.base_definite.proofs.LinePlaces.{line_from}
 
 -- of two parts of which at most one is more than none
 join_counts : (A B C : Type 0) (first rest whole few : ℕ) → whole ≡ first + rest → (first ≡ 0) ⊎ (A × (first ≤ few)) → (rest ≡ 0) ⊎ (B × (rest ≤ few)) → (A → C) → (B → C) → (A → B → ⊥)

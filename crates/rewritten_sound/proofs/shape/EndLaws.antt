@@ -34,13 +34,13 @@ use Rattle.rewriting_laws.specs.Laws.{IsPlain}
 use Rattle.rewriting_laws.proofs.JumpLemmas.{one_piece}
 use Rattle.rewriting_laws.proofs.LiveLaws.{drop_from}
 use Rattle.rewriting_laws.proofs.NameLemmas.{call_or_not, is_none, is_one}
-use Rattle.rewritten_sound.proofs.definite.LineLaws.{line_forth, line_from}
 use Rattle.rewritten_sound.proofs.definite.MadeLaws.{edges_counted, edges_same}
 use Rattle.rewritten_sound.proofs.definite.NowLaws.{block_now, graph_now, insts_now, now, number, pieces, text}
 use Rattle.rewritten_sound.proofs.definite.PieceLaws.{PieceFrom, call_pieces, cut, from_join, from_line, offset, piece_from, pieces_for}
 use Rattle.rewritten_sound.proofs.definite.UsedLaws.{phi_right}
 use Rattle.rewritten_sound.proofs.shape.GroupLaws.{MemberOf, from_piece, is_relocate, is_result, member_of, only_one}
 use Rattle.rewritten_sound.proofs.shape.PassLaws.{IsNamed}
+use Rattle.base_definite.proofs.LinePlaces.{line_from, line_forth}
 
 -- ---- counts of predecessors
 

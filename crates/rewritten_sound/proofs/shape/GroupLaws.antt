@@ -1,15 +1,15 @@
 -- Each line of the rewritten function is well formed, and its groups are in shape.
-use Rattle.std.proofs.Common.{◌≡◌, ℕ, zero, suc, ◌+◌, ◌-◌, ◌<◌, true, false, not, eqb, if◌then◌else◌, List, [], ◌∷◌, ◌++◌, length, map, drop, refl, sym, ap, subst, ◌∙◌, inl, inr, arith}
+use Rattle.std.proofs.Common.{◌≡◌, ℕ, zero, suc, ◌+◌, ◌-◌, ◌<◌, true, false, not, eqb, List, [], ◌∷◌, ◌++◌, length, map, drop, refl, sym, ap, subst, ◌∙◌, inl, inr, arith, Bool}
 use Rattle.std.specs.Prelude.{Option, Some, None, IfSome, slice_get}
-use Rattle.std.specs.List.{All, AllZip, list_any}
+use Rattle.std.specs.List.{All, AllZip, Contains}
 use Rattle.std.specs.Option.{option_map_or}
 use Rattle.std.proofs.Math.Seq.{drop-append_seam}
-use Rattle.std.proofs.lemmas.Bool.{eq-eqb, false≢true}
+use Rattle.std.proofs.lemmas.Bool.{eq-eqb}
 use Rattle.std.proofs.lemmas.List.{drop-map, length-map}
 use Rattle.std.proofs.lemmas.List.Elements.{All-nil}
 use Rattle.std.proofs.lemmas.Option.{none-some, slice_get_within}
-use Rattle.list_laws.proofs.Contents.{all_from_at}
-use Rattle.list_laws.proofs.Places.{filter_map_back, get_map, get_past, get_some, map_back, get_joined}
+use Rattle.list_laws.proofs.Contents.{all_from_at, all_contained}
+use Rattle.list_laws.proofs.Places.{filter_map_back, get_map, get_some, map_back, get_joined}
 use Rattle.sp_ids.specs.declared.ids.ValueId.{ValueId}
 use Rattle.ir_ast.specs.declared.types.Ty.{Ty}
 use Rattle.ir_ast.specs.declared.types.Ty.TheVariants.{Ptr, Token}
@@ -23,30 +23,35 @@ use Rattle.ir_ast.specs.Insts.{Instruction}
 use Rattle.ir_ast.specs.Blocks.{BasicBlock}
 use Rattle.ir_ast.specs.Funcs.{Function, instructions_of}
 use Rattle.ir_ast.specs.Modules.{ModuleContent}
-use Rattle.ir_ast.specs.Operands.{operands_of, value_in, values_used}
+use Rattle.ir_ast.specs.Operands.{operands_of, same_operand as same_as, value_in, values_used}
 use Rattle.ir_ast.specs.Scope.{scope_of}
 use Rattle.ir_ast.specs.Values.{value_types}
-use Rattle.ir_ast.specs.Faults.GroupShape.{Group, GroupsInShape, RelocateInShape, ResultInShape, ShapeOf, UsesNoToken, entries_of, is_part, live_entries, is_statepoint}
+use Rattle.ir_ast.specs.Faults.GroupShape.{Group, GroupsInShape, RelocateInShape, ResultInShape, ShapeOf, UsesNoToken, entries_of, is_part, live_entries, is_statepoint, IsApart, holds_live, is_held}
 use Rattle.ir_ast.specs.Faults.TypeClash.{Fits, IsTyped}
+use Rattle.ir_ast.specs.Types.{is_pointer}
 use Rattle.ir_cfg.specs.DefiniteUses.{Stands, text_place}
+use Rattle.ir_cfg.proofs.UsedLaws.{used_type}
 use Rattle.definite_assign.proofs.TextLemmas.{stands_in_text}
 use Rattle.object_meaning.specs.Frames.{is_member}
 use Rattle.object_meaning.specs.Lines.{Line}
 use Rattle.rewriting_forms.specs.Numbered.{among, base_at, calls, is_call, lines_at, named, pointers, preds}
 use Rattle.rewriting_forms.specs.Liveness.{live_list}
 use Rattle.rewriting_forms.specs.Names as forms
-use Rattle.rewriting_forms.specs.Names.{Name, Names, Naming, names_at, names_at_end, own}
-use Rattle.rewriting_forms.specs.Rewritten.{Piece, entries, group, index_of, inserted_phi, is_null, joined_at, piece_inst, plain, relocate_of, renamed, result_of, same_operand, statepoint}
+use Rattle.rewriting_forms.specs.Names.{Name, Naming, names_at, names_at_end, own}
+use Rattle.rewriting_forms.specs.Rewritten.{Piece, entries, group, index_of, inserted_phi, joined_at, piece_inst, plain, relocate_of, renamed, result_of, statepoint}
 use Rattle.rewriting_laws.proofs.JumpLemmas.{one_piece}
-use Rattle.rewriting_laws.proofs.NameLemmas.{among_filter, call_or_not, found, is_none, is_one}
-use Rattle.rewritten_sound.proofs.definite.LineLaws.{line_from}
+use Rattle.rewriting_laws.proofs.NameLemmas.{among_filter, call_or_not, is_none, is_one}
 use Rattle.rewritten_sound.proofs.definite.NowLaws.{block_forth, block_now, defines_piece, insts_now, now, number, pieces, text}
-use Rattle.rewritten_sound.proofs.definite.PieceLaws.{PieceFrom, among_at, call_pieces, from_join, from_line, offset, piece_at, piece_from, pieces_for, result_piece}
+use Rattle.rewritten_sound.proofs.definite.PieceLaws.{PieceFrom, call_pieces, from_join, from_line, offset, piece_at, piece_from, pieces_for, result_piece}
+use Rattle.rewritten_sound.proofs.definite.ListedLaws as lists
 use Rattle.rewritten_sound.specs.WellFormed.{Carries, IsWellFormed, LineCarries}
-use Rattle.rewritten_sound.proofs.shape.KeptLaws.{carried_all, used_type}
+use Rattle.rewritten_sound.proofs.shape.KeptLaws.{carried_all}
 use Rattle.rewritten_sound.proofs.shape.NamedLaws.{listed_pointer, pointer_is, text_back}
 use Rattle.rewritten_sound.proofs.shape.PassLaws.{IsNamed, entry_of, index_within, listed_some, named_type, phi_well, plain_carries, plain_well, point_of, point_well, relocate_well, result_well, statepoint_carries, statepoint_well}
 use Rattle.std.proofs.lemmas.Map.Keys.{any_passes_from_place}
+use Rattle.std.proofs.lemmas.List.Folds.{list_all-map}
+use Rattle.std.proofs.lemmas.List.Sums.{list_all-from_AllPass}
+use Rattle.base_definite.proofs.LinePlaces.{line_from}
 
 pub only_one : {A : Type 0} (x y : A) (i : ℕ) → slice_get (x ∷ []) i ≡ Some y → x ≡ y
 only_one x y zero is = cc
@@ -74,7 +79,7 @@ module _ (before now_types : List Ty) where
   carried_type (operands.Fun called) o w ty bad carries value_at fits at = absurd (let none : None ≡ Some w = ap value_in (sym carries) ∙ value_at in cc)
 
 pub shape_plain : (func : Function) (place : ℕ) (inst : Instruction) (op : Op) → is_statepoint op ≡ false → is_member op ≡ false
-    → UsesNoToken func inst × All (λ entry. Fits (value_types func) entry Ptr) (entries_of inst) → ShapeOf func place inst op
+    → IsApart func inst → ShapeOf func place inst op
 shape_plain func place inst (ops.Statepoint id callee types) no_statepoint no_member holds = absurd cc
 shape_plain func place inst ops.GcResult no_statepoint no_member holds = absurd cc
 shape_plain func place inst ops.GcRelocate no_statepoint no_member holds = absurd cc
@@ -83,10 +88,6 @@ shape_plain func place inst op no_statepoint no_member holds = holds
 pub no_live_entries : (op : Op) (given : List Operand) → is_statepoint op ≡ false → live_entries op given ≡ []
 no_live_entries (ops.Statepoint id callee types) given none = absurd cc
 no_live_entries op given none = refl
-
--- no entries and no tokens
-abbrev NoGroup : Function → Instruction → Type 0
-NoGroup func inst = UsesNoToken func inst × All (λ entry. Fits (value_types func) entry Ptr) (entries_of inst)
 
 module _ (content other : ModuleContent) (func : Function) (table : List Operand) (naming : Naming) (room : ℕ) (is : IsNamed content other func table naming room) where
   abbrev to : Name → ℕ
@@ -200,7 +201,7 @@ module _ (content other : ModuleContent) (func : Function) (table : List Operand
             (All-nil (λ entry. Fits (value_types after) entry Ptr)),
       )
 
-  join_shape : (b v place : ℕ) → b < length func.blocks → naming.joins b v ≡ true → NoGroup after (written (inserted_phi func table naming to b v))
+  join_shape : (b v place : ℕ) → b < length func.blocks → naming.joins b v ≡ true → IsApart after (written (inserted_phi func table naming to b v))
   join_shape b v place below joins = (
     all_from_at (λ value. slice_get (value_types after) value ≡ Some Token → ⊥) (values_used phi) (λ k w at bad.
         let item = filter_map_back value_in (operands_of phi) w k at in
@@ -246,12 +247,39 @@ module _ (content other : ModuleContent) (func : Function) (table : List Operand
               (named_type content other func table naming room is b k listed.0 Ptr (pointer_is func listed.0 (listed_pointer func table b k listed.0 listed.2)))
         ]
 
-    statepoint_shape : NoGroup after head
+    -- a pointer of the bundle is listed, and so stands among the entries
+    held_now : (entry : Ty × Operand) → Contains line.inst.bundle entry → is_held (entries_of head) entry.0 (renamed to (names_at func table naming b k) entry.1) ≡ true
+    held_now entry inside = by entry.0 entry.1 refl refl
+      where
+        by : (ty : Ty) (o : Operand) → entry.0 ≡ ty → entry.1 ≡ o → is_held (entries_of head) ty (renamed to (names_at func table naming b k) o) ≡ true
+        by Ptr (operands.Value value) type same =
+            let place = lists.entry_of func table b k value.0 (lists.held_listed func table b k line at is.held entry inside (ap is_pointer type) value.0 same) in
+            let now = renamed to (names_at func table naming b k) (named value.0) in
+            let stands : slice_get (entries_of head) place.0 ≡ Some now =
+            ap (λ (all : List Operand). slice_get all place.0) entries_now ∙ get_map (renamed to (names_at func table naming b k)) (entries func table b k) place.0 (named value.0) place.2 in
+            any_passes_from_place (λ (entry : Operand). same_as entry now) (entries_of head) place.0 now stands
+            (eq-eqb (to (names_at func table naming b k value.0)) (to (names_at func table naming b k value.0)) refl)
+        by Ptr (operands.Int word) type same = refl
+        by Ptr operands.Null type same = refl
+        by Ptr (operands.Fun called) type same = refl
+        by ty o type same = refl
+
+    holds_now : holds_live head ≡ true
+    holds_now =
+        let bundle_now : Ty × Operand → Ty × Operand = λ entry. (entry.0, renamed to (names_at func table naming b k) entry.1) in
+        let held : Ty × Operand → Bool = λ entry. is_held (entries_of head) entry.0 entry.1 in
+        list_all-map held bundle_now line.inst.bundle
+        ∙ list_all-from_AllPass (λ entry. held (bundle_now entry)) line.inst.bundle (all_contained (λ entry. held (bundle_now entry) ≡ true) line.inst.bundle held_now)
+
+    statepoint_shape : IsApart after head × (holds_live head ≡ true)
     statepoint_shape = (
-      carried_no_token (point_of func table b k line callee types) head (statepoint_carries content other func table naming room is b k line callee types)
-          (point_well content func table b k line callee types (is.lines b k line at) op (is.arguments b k line callee types at op) no_leaf).typed,
-      subst (All (λ entry. Fits (value_types after) entry Ptr)) (sym entries_now)
-          (all_from_at (λ entry. Fits (value_types after) entry Ptr) (map (renamed to (names_at func table naming b k)) (entries func table b k)) entry_fits_now),
+      (
+        carried_no_token (point_of func table b k line callee types) head (statepoint_carries content other func table naming room is b k line callee types)
+            (point_well content func table b k line callee types (is.lines b k line at) op (is.arguments b k line callee types at op) no_leaf).typed,
+        subst (All (λ entry. Fits (value_types after) entry Ptr)) (sym entries_now)
+            (all_from_at (λ entry. Fits (value_types after) entry Ptr) (map (renamed to (names_at func table naming b k)) (entries func table b k)) entry_fits_now),
+      ),
+      holds_now,
     )
 
     -- where the statepoint stands in the text, and each member behind it
@@ -309,29 +337,15 @@ module _ (content other : ModuleContent) (func : Function) (table : List Operand
     pub entries_count : length (entries_of head) ≡ length (entries func table b k)
     entries_count = ap length entries_now ∙ length-map (entries func table b k) (renamed to (names_at func table naming b k))
 
-    same_value : (o : Operand) (v : ℕ) → same_operand o (named v) ≡ true → (value : ValueId) × (renamed to (names_at func table naming b k) o ≡ operands.Value value)
-    same_value (operands.Value value) v same = (record { 0 = to (names_at func table naming b k value.0) }, refl)
-    same_value (operands.Int word) v same = absurd (false≢true same)
-    same_value operands.Null v same = absurd (false≢true same)
-    same_value (operands.Fun called) v same = absurd (false≢true same)
-
-    entry_stands : (v : ℕ) → among v (live_list func table b k) ≡ true → (place : ℕ) × (slice_get (entries func table b k) place ≡ Some (named v))
-    entry_stands v listed =
-        let place = among_at v (live_list func table b k) listed in
-        let front : List Operand = if list_any (λ (x : ℕ). is_null (base_at table x)) (live_list func table b k) then operands.Null ∷ [] else [] in
-        (length front + place.0, get_past front (map (λ (x : ℕ). named x) (live_list func table b k)) place.0 ∙ get_map (λ (x : ℕ). named x) (live_list func table b k) place.0 v place.1)
-
     derived_entry : (v : ℕ) → among v (live_list func table b k) ≡ true
         → (value : ValueId) × (slice_get (entries_of head) (index_of func table b k (named v)) ≡ Some (operands.Value value))
     derived_entry v listed =
-        let place = entry_stands v listed in
-        let first = found (λ (entry : Operand). same_operand entry (named v)) (entries func table b k) place.0 (named v) place.1 (eq-eqb v v refl) in
-        let index : index_of func table b k (named v) ≡ first.0 = ap (λ (at : Option ℕ). option_map_or (λ place. place) at 0) first.2 in
-        let value = same_value first.1 v first.4 in (
-          value.0,
+        let place = lists.entry_of func table b k v listed in
+        let index : index_of func table b k (named v) ≡ place.0 = ap (λ (at : Option ℕ). option_map_or (λ place. place) at 0) place.1 in (
+          record { 0 = to (names_at func table naming b k v) },
           ap (λ (all : List Operand). slice_get all (index_of func table b k (named v))) entries_now
               ∙ (ap (slice_get (map (renamed to (names_at func table naming b k)) (entries func table b k))) index
-              ∙ (get_map (renamed to (names_at func table naming b k)) (entries func table b k) first.0 first.1 first.3 ∙ ap (λ o. Some o) value.1)),
+              ∙ get_map (renamed to (names_at func table naming b k)) (entries func table b k) place.0 (named v) place.2),
         )
 
     member_shape : (i : ℕ) (piece : Piece) → slice_get (group func table naming to b k line) i ≡ Some piece → MemberOf b k i line piece

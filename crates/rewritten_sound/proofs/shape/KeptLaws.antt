@@ -1,12 +1,10 @@
 -- A line over carried operands is well formed in the other function.
-use Rattle.std.proofs.Common.{◌≡◌, ℕ, zero, suc, ◌<◌, List, [], ◌∷◌, ◌++◌, length, map, refl, sym, ap, subst, ◌∙◌, inl, inr, arith}
-use Rattle.std.specs.Prelude.{Option, Some, slice_get}
+use Rattle.std.proofs.Common.{◌≡◌, ℕ, ◌<◌, List, [], ◌∷◌, ◌++◌, length, map, refl, sym, ap, subst, ◌∙◌, arith}
+use Rattle.std.specs.Prelude.{Option}
 use Rattle.std.specs.List.{All, AllZip, cons_option, filter_map, flat_map}
 use Rattle.std.proofs.lemmas.List.Elements.{All-append}
-use Rattle.std.proofs.lemmas.Option.{slice_get_within}
 use Rattle.std.proofs.lemmas.Slice.Zip.{AllZip-long}
-use Rattle.list_laws.proofs.Contents.{all_at, all_back, all_from_at, all_front}
-use Rattle.list_laws.proofs.Places.{filter_map_back, map_back, get_joined}
+use Rattle.list_laws.proofs.Contents.{all_back, all_front}
 use Rattle.sp_ids.specs.declared.ids.BlockId.{BlockId}
 use Rattle.ir_ast.specs.declared.types.Ty.{Ty}
 use Rattle.ir_ast.specs.declared.ops.Op.{Op}
@@ -16,56 +14,14 @@ use Rattle.ir_ast.specs.Insts.{Instruction}
 use Rattle.ir_ast.specs.Funcs.{Function}
 use Rattle.ir_ast.specs.Modules.{ModuleContent}
 use Rattle.ir_ast.specs.Ops.{is_terminator}
-use Rattle.ir_ast.specs.Operands.{functions_named, layouts_named, operands_of, value_in, values_used}
-use Rattle.ir_ast.specs.Scope.{Scope, scope_of}
-use Rattle.ir_ast.specs.Values.{definition_type, definitions_of}
+use Rattle.ir_ast.specs.Operands.{functions_named, layouts_named, operands_of}
+use Rattle.ir_ast.specs.Scope.{scope_of}
 use Rattle.ir_ast.specs.Widths.{IsWidth, line_widths, operator_widths, type_widths}
 use Rattle.ir_ast.specs.Faults.PointerOrder.{orders_pointers}
-use Rattle.ir_ast.specs.Faults.TypeClash.{Fits, IsTyped, asked}
 use Rattle.ir_ast.specs.Faults.UnknownName.{NamesOfModule}
-use Rattle.std.proofs.lemmas.List.{length-map}
 use Rattle.rewritten_sound.specs.WellFormed.{Carries, CarriesEntry, IsWellFormed, LineCarries, SeesAlike}
 use Rattle.rewritten_sound.proofs.shape.CarryLaws.{line_carried, typed_carried}
-
--- ---- what a typed line uses exists
-
-fits_at : (values : List Ty) (given : List Operand) (types : List Ty) (k : ℕ) (o : Operand) → AllZip (Fits values) given types → slice_get given k ≡ Some o → (ty : Ty) × Fits values o ty
-fits_at values [] types k o fits at = absurd cc
-fits_at values (first ∷ given) [] k o fits at = absurd fits
-fits_at values (first ∷ given) (ty ∷ types) zero o fits at = let same : first ≡ o = cc in (ty, subst (λ (x : Operand). Fits values x ty) same fits.0)
-fits_at values (first ∷ given) (ty ∷ types) (suc k) o fits at = fits_at values given types k o fits.1 at
-
--- where an operand stands that a typed line uses it has a type
-pub used_type : (scope : Scope) (inst : Instruction) → IsTyped scope inst → (k : ℕ) (o : Operand) → slice_get (operands_of inst) k ≡ Some o → (ty : Ty) × Fits scope.values o ty
-used_type scope inst typed k o at = elim (get_joined inst.operands (map (λ (entry : Ty × Operand). entry.1) inst.bundle) k o at) [
-  | inl own ↦ fits_at scope.values inst.operands (asked inst.op inst.ty (length inst.operands)) k o typed.operands own
-  | inr there ↦
-      let before = map_back (λ (entry : Ty × Operand). entry.1) inst.bundle there.0 o there.2 in (
-        (before.before).0,
-        subst (λ (x : Operand). Fits scope.values x (before.before).0) (sym before.is)
-            (all_at (λ (entry : Ty × Operand). Fits scope.values entry.1 entry.0) inst.bundle there.0 before.before typed.bundle before.stands),
-      )
-]
-
-value_fits : (values : List Ty) (o : Operand) (v : ℕ) (ty : Ty) → value_in o ≡ Some v → Fits values o ty → slice_get values v ≡ Some ty
-value_fits values (operands.Value value) v ty is fits = let same : value.0 ≡ v = cc in ap (slice_get values) (sym same) ∙ fits
-value_fits values (operands.Int word) v ty is fits = absurd cc
-value_fits values operands.Null v ty is fits = absurd cc
-value_fits values (operands.Fun called) v ty is fits = absurd cc
-
-pub used_value : (scope : Scope) (inst : Instruction) → IsTyped scope inst → (k v : ℕ) → slice_get (values_used inst) k ≡ Some v → (ty : Ty) × (slice_get scope.values v ≡ Some ty)
-used_value scope inst typed k v at =
-    let from = filter_map_back value_in (operands_of inst) v k at in
-    let type = used_type scope inst typed from.place from.item from.stands in
-    (type.0, value_fits scope.values from.item v type.0 from.gives type.1)
-
-pub values_known : (content : ModuleContent) (func : Function) (inst : Instruction) → IsTyped (scope_of content func) inst → All (λ value. value < length (definitions_of func)) (values_used inst)
-values_known content func inst typed =
-    all_from_at (λ value. value < length (definitions_of func)) (values_used inst) (λ k v at.
-    let type = used_value (scope_of content func) inst typed k v at in
-    let within = slice_get_within (scope_of content func).values v type.0 type.1 in
-    let long = length-map (definitions_of func) definition_type in
-    omega (arith, within, long))
+use Rattle.ir_cfg.proofs.UsedLaws.{values_known}
 
 -- ---- what a carried line names
 

@@ -4,10 +4,9 @@ use Rattle.std.specs.Prelude.{Option, Some, None, codes, filter, slice_get}
 use Rattle.std.specs.List.{All, flat_map}
 use Rattle.std.specs.Option.{option_map}
 use Rattle.std.proofs.lemmas.List.{length-append}
-use Rattle.std.proofs.lemmas.List.Elements.{All-cons, All-nil, filter-append}
+use Rattle.std.proofs.lemmas.List.Elements.{All-cons, All-nil, filter-append, All-head, All-tail}
 use Rattle.std.proofs.lemmas.Option.{get_or_from_slice_get}
 use Rattle.list_laws.proofs.Contents.{all_at, all_back, all_from_at}
-use Rattle.renaming_laws.proofs.ListLaws.{all_first, all_rest}
 use Rattle.ir_ast.specs.declared.funcs.Arg.{Arg}
 use Rattle.ir_ast.specs.declared.modules.Form.TheVariants.{Rewritten}
 use Rattle.ir_ast.specs.declared.ops.Callee.{Callee}
@@ -44,7 +43,6 @@ use Rattle.rewriting_laws.specs.Laws as laws
 use Rattle.rewriting_laws.specs.Related.{IsRewriting}
 use Rattle.rewriting_laws.specs.Statements.{func_of, no_function, rewritings}
 use Rattle.rewriting_laws.proofs.Whole.{modules, now_get}
-use Rattle.rewritten_sound.proofs.definite.LineLaws.{line_forth, line_from}
 use Rattle.rewritten_sound.proofs.definite.NowLaws.{now}
 use Rattle.rewritten_sound.specs.Shape.{HasRoomForGroups, IsTypedBefore, RewrittenIsTyped}
 use Rattle.rewritten_sound.specs.WellFormed.{IsWellFormed, SeesAlike}
@@ -52,6 +50,8 @@ use Rattle.rewritten_sound.proofs.shape.CountLaws.{points_few}
 use Rattle.rewritten_sound.proofs.shape.FunctionLaws.{NoPoint, distinct_labels, distinct_values, has_no_fault, is_typed, is_typed_function, no_tokens}
 use Rattle.rewritten_sound.proofs.shape.NamedLaws.{naming_in_text}
 use Rattle.rewritten_sound.proofs.shape.PassLaws.{IsNamed}
+use Rattle.rewritten_sound.specs.Takes.{HoldsOthers}
+use Rattle.base_definite.proofs.LinePlaces.{line_from, line_forth}
 
 -- ---- the functions of the module
 
@@ -68,8 +68,8 @@ same_head : (P : Function → Type 0) → ((func : Function) (table : List Opera
     → All P funcs → All P (rewritten_funcs tables from funcs)
 same_head P each tables from [] all = All-nil P
 same_head P each tables from (func ∷ funcs) all =
-    All-cons P (rewritten func (tables from)) (rewritten_funcs tables (suc from) funcs) (each func (tables from) (all_first P func funcs all))
-    (same_head P each tables (suc from) funcs (all_rest P func funcs all))
+    All-cons P (rewritten func (tables from)) (rewritten_funcs tables (suc from) funcs) (each func (tables from) (All-head P func funcs all))
+    (same_head P each tables (suc from) funcs (All-tail P func funcs all))
 
 split_funcs : (tables : ℕ → List Operand) (from : ℕ) (earlier : List Function) (main : Function) (later : List Function)
     → rewritten_funcs tables from (earlier ++ main ∷ later)
@@ -172,6 +172,7 @@ module _ (content : ModuleContent) (tables : ℕ → List Operand) (is : IsTyped
       arguments = shape.arguments;
       no_statepoint = shape.no_statepoint;
       no_member = shape.no_member;
+      held = all_at HoldsOthers content.funcs g func is.held found;
     }
 
     distinct_here : Distinct (map definition_name (definitions_of func))

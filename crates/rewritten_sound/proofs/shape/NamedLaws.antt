@@ -39,7 +39,8 @@ use Rattle.rewriting_laws.proofs.NameLemmas.{among_filter, call_or_not, filter_a
 use Rattle.base_laws.proofs.TypeLaws.{type_of_given}
 use Rattle.base_definite.proofs.base_paths.GivesLaws.{defines_gives, stands_one}
 use Rattle.base_definite.proofs.base_relations.GroupLaws.{given_at}
-use Rattle.rewritten_sound.proofs.definite.LineLaws.{defines_given, given_defines, line_from}
+use Rattle.base_definite.proofs.LinePlaces.{line_from}
+use Rattle.rewritten_sound.proofs.definite.LineLaws.{defines_given, given_defines}
 use Rattle.rewritten_sound.proofs.definite.NowLaws.{block_forth, defines_piece, insts_now, now, number, pieces, text}
 use Rattle.rewritten_sound.proofs.definite.PieceLaws.{among_at, call_pieces, offset, piece_at, pieces_for, relocate_at, result_at, result_piece}
 use Rattle.object_meaning.proofs.LineLaws.{given_is}

@@ -38,6 +38,7 @@ use Rattle.ir_ast.specs.Faults.UnknownName.{NamesOfModule}
 use Rattle.ir_ast.specs.Faults.GroupShape.{is_statepoint, number_at}
 use Rattle.ir_cfg.specs.DefiniteUses.{text_place}
 use Rattle.ir_cfg.specs.Graphs.{graph_of, preds_of}
+use Rattle.ir_cfg.proofs.UsedLaws.{values_known}
 use Rattle.object_meaning.specs.Frames.{is_member}
 use Rattle.object_meaning.specs.Lines.{Line}
 use Rattle.rewriting_forms.specs.Numbered.{among, base_at, calls, gives, line_at, lines_at, named, pointers, preds}
@@ -49,13 +50,14 @@ use Rattle.rewriting_laws.specs.Laws.{Fits as NamingFits, IsNumbering, Reached, 
 use Rattle.rewriting_laws.specs.Laws as laws
 use Rattle.rewriting_laws.proofs.NameLemmas.{names_value}
 use Rattle.rewriting_laws.proofs.VersionLaws.{edge_within}
-use Rattle.rewritten_sound.proofs.definite.LineLaws.{LineFrom, line_from}
 use Rattle.rewritten_sound.proofs.definite.NowLaws.{now, number, text}
 use Rattle.rewritten_sound.proofs.definite.PieceLaws.{result_piece}
 use Rattle.rewritten_sound.specs.WellFormed.{Carries, CarriesEntry, IsWellFormed, LineCarries}
-use Rattle.rewritten_sound.proofs.shape.KeptLaws.{AreAlike, values_known, well_carried}
+use Rattle.rewritten_sound.proofs.shape.KeptLaws.{AreAlike, well_carried}
 use Rattle.rewritten_sound.proofs.shape.NamedLaws.{InText, a_token, listed_pointer, name_type, names_in_text, owner_type, pointer_is}
+use Rattle.rewritten_sound.specs.Takes.{HoldsOthers}
 use Rattle.std.proofs.lemmas.Map.Keys.{any_passes_from_place}
+use Rattle.base_definite.proofs.LinePlaces.{LineFrom, line_from}
 
 -- ---- lists
 
@@ -281,6 +283,7 @@ pub record IsNamed (content other : ModuleContent) (func : Function) (table : Li
       → length types ≡ length line.inst.operands
   pub no_statepoint : (b k : ℕ) (line : Line) → slice_get (lines_at func b) k ≡ Some line → is_statepoint line.inst.op ≡ false
   pub no_member : (b k : ℕ) (line : Line) → slice_get (lines_at func b) k ≡ Some line → is_member line.inst.op ≡ false
+  pub held : HoldsOthers func
 
 module _ (content other : ModuleContent) (func : Function) (table : List Operand) (naming : Naming) (room : ℕ) (is : IsNamed content other func table naming room) where
   abbrev to : Name → ℕ

@@ -41,16 +41,16 @@ use Rattle.ir_ast.specs.Faults.UnknownName.{NamesOfFunction, NamesOfModule}
 use Rattle.ir_cfg.specs.DefiniteUses.{Defines, UsesAreDefinite, by_entry, by_line, in_last}
 use Rattle.ir_cfg.specs.Graphs.{graph_of}
 use Rattle.ir_cfg.specs.Limits.{IsName}
-use Rattle.ir_cfg.specs.Paths.{at_entry}
+use Rattle.ir_cfg.specs.Paths.{at_entry, IsReached}
 use Rattle.ir_cfg.specs.SourceModules.{IsSourceModule}
 use Rattle.ir_cfg.specs.TargetModules.{IsTargetModule}
 use Rattle.ir_cfg.specs.TypedModules.{IsTypedFunction}
+use Rattle.ir_cfg.proofs.UsedLaws.{values_known}
+use Rattle.ir_cfg.proofs.NameLaws.{absent, all_distinct, differ, free_main, names_distinct, not_inserted}
 use Rattle.definite_assign.proofs.PathLemmas.{path_ends}
-use Rattle.base_definite.specs.Relations.{IsReached}
 use Rattle.base_forms.specs.DerivedMarks.{derived_marks}
 use Rattle.rewritten_sound.specs.Definite.{IsReachedSource, rewritten_source}
 use Rattle.rewritten_sound.specs.WellFormed.{IsWellFormed}
-use Rattle.rewritten_sound.proofs.shape.KeptLaws.{values_known}
 use Rattle.rewritten_sound.proofs.shape.TargetLaws.{rewritten_is_target}
 
 abbrev value : ℕ → Operand
@@ -159,52 +159,6 @@ each_line P holds = each_of P (holds _ (new_well (codes "p"))) (holds _ (new_wel
 each_definition : (P : Definition → Type 0) → P (outcome (new (codes "p"))) → P (outcome (new (codes "q"))) → All P (definitions_of kept)
 each_definition P a b = All-cons P (outcome (new (codes "p"))) (outcome (new (codes "q")) ∷ []) a (All-cons P (outcome (new (codes "q"))) [] b (All-nil P))
 
--- ---- names
-
-one_apart : {A : Type 0} (a : A) → Distinct (a ∷ [])
-one_apart a zero zero less below same = omega (arith, less)
-one_apart a zero (suc k) less below same = let fact : suc k < 1 = below in omega (arith, fact)
-one_apart a (suc j) k less below same = let fact : k < 1 = below in omega (arith, less, fact)
-
-two_apart : (a b : List ℕ) → (a ≡ b → ⊥) → Distinct (a ∷ b ∷ [])
-two_apart a b differ zero zero less below same = omega (arith, less)
-two_apart a b differ zero (suc zero) less below same = differ (let whole : Some a ≡ Some b = same in cc)
-two_apart a b differ zero (suc (suc k)) less below same = let fact : suc (suc k) < 2 = below in omega (arith, fact)
-two_apart a b differ (suc j) k less below same = let fact : k < 2 = below in omega (arith, less, fact)
-
-abbrev first_of : List ℕ → ℕ
-first_of [] = 0
-first_of (x ∷ xs) = x
-
-p_not_q : codes "p" ≡ codes "q" → ⊥
-p_not_q is = let heads : 112 ≡ 113 = ap first_of is in omega (arith, heads)
-
-not_inserted : (name : List ℕ) (head : ℕ) → first_of name ≡ head → (head ≡ 115 → ⊥) → IsInsertedName name → ⊥
-not_inserted name head is other front = other (sym is ∙ ap first_of front.1)
-
-free_name : IsExternalName (codes "main") → ⊥
-free_name (inl among) = elim (contains_cons (codes "print_i64") (codes "main") (codes "read_i64" ∷ codes "task_start" ∷ codes "gc.safepoint_poll" ∷ codes "gc_check" ∷ codes "gc_same" ∷ []) among) [
-  | inl is ↦ (let heads : 112 ≡ 109 = ap first_of is in omega (arith, heads))
-  | inr among ↦ elim (contains_cons (codes "read_i64") (codes "main") (codes "task_start" ∷ codes "gc.safepoint_poll" ∷ codes "gc_check" ∷ codes "gc_same" ∷ []) among) [
-    | inl is ↦ (let heads : 114 ≡ 109 = ap first_of is in omega (arith, heads))
-    | inr among ↦ elim (contains_cons (codes "task_start") (codes "main") (codes "gc.safepoint_poll" ∷ codes "gc_check" ∷ codes "gc_same" ∷ []) among) [
-      | inl is ↦ (let heads : 116 ≡ 109 = ap first_of is in omega (arith, heads))
-      | inr among ↦ elim (contains_cons (codes "gc.safepoint_poll") (codes "main") (codes "gc_check" ∷ codes "gc_same" ∷ []) among) [
-        | inl is ↦ (let heads : 103 ≡ 109 = ap first_of is in omega (arith, heads))
-        | inr among ↦ elim (contains_cons (codes "gc_check") (codes "main") (codes "gc_same" ∷ []) among) [
-          | inl is ↦ (let heads : 103 ≡ 109 = ap first_of is in omega (arith, heads))
-          | inr among ↦ elim (contains_cons (codes "gc_same") (codes "main") [] among) [
-            | inl is ↦ (let heads : 103 ≡ 109 = ap first_of is in omega (arith, heads))
-            | inr among ↦ contains_none (codes "main") among
-          ]
-        ]
-      ]
-    ]
-  ]
-]
-free_name (inr (inl front)) = let heads : 109 ≡ 103 = ap first_of front.1 in omega (arith, heads)
-free_name (inr (inr front)) = let heads : 109 ≡ 108 = ap first_of front.1 in omega (arith, heads)
-
 -- ---- no phi, no derived pointer
 
 home : (number : ℕ) (found : BasicBlock) → slice_get kept.blocks number ≡ Some found → (number ≡ 0) × (found ≡ entry)
@@ -283,8 +237,8 @@ no_fault = record {
   pointers = each_line (λ line. orders_pointers line.op line.ty ≡ false) (λ line is. is.unordered);
   form = (
     record {
-      values = each_definition (λ given. IsInsertedName (definition_name given) → ⊥) (not_inserted (codes "p") 112 refl (λ is. omega (arith, is))) (not_inserted (codes "q") 113 refl (λ is. omega (arith, is)));
-      labels = all_one (λ (b : BasicBlock). IsInsertedName b.name → ⊥) entry (not_inserted (codes "entry") 101 refl (λ is. omega (arith, is)));
+      values = each_definition (λ given. IsInsertedName (definition_name given) → ⊥) (not_inserted 112 [] (differ 112 115 refl)) (not_inserted 113 [] (differ 113 115 refl));
+      labels = all_one (λ (b : BasicBlock). IsInsertedName b.name → ⊥) entry (not_inserted 101 (codes "ntry") (differ 101 115 refl));
       lines = each_of (λ line. is_rewritten line.op ≡ false) refl refl refl refl;
     },
     each_of (KeepsDerived kept) (All-nil (λ v. Derived kept v → ⊥)) (All-nil (λ v. Derived kept v → ⊥)) (all_one (λ v. Derived kept v → ⊥) 0 (not_derived 0)) (All-nil (λ v. Derived kept v → ⊥)),
@@ -313,15 +267,16 @@ typed_function = record {
 }
 
 worked_source : IsSourceModule worked
+unfolding all_distinct absent
 worked_source = record {
   typed = record {
     of_form = refl;
     no_fault = record {
       names = record {
-        layouts = one_apart (codes "N");
-        functions = one_apart (codes "main");
-        labels = all_one (λ (func : Function). Distinct (map (λ (b : BasicBlock). b.name) func.blocks)) kept (one_apart (codes "entry"));
-        values = all_one (λ (func : Function). Distinct (map definition_name (definitions_of func))) kept (two_apart (codes "p") (codes "q") p_not_q);
+        layouts = names_distinct (codes "N" ∷ []) refl;
+        functions = names_distinct (codes "main" ∷ []) refl;
+        labels = all_one (λ (func : Function). Distinct (map (λ (b : BasicBlock). b.name) func.blocks)) kept (names_distinct (codes "entry" ∷ []) refl);
+        values = all_one (λ (func : Function). Distinct (map definition_name (definitions_of func))) kept (names_distinct (codes "p" ∷ codes "q" ∷ []) refl);
       };
       typed = all_one (λ (func : Function). FunctionIsTyped (scope_of worked func) func) kept (record {
         answer = refl;
@@ -331,7 +286,7 @@ worked_source = record {
       functions = all_one (FunctionHasNoFault worked) kept no_fault;
       main = record { earlier = []; main = kept; later = []; whole = refl; first = All-nil (λ (func : Function). func.name ≡ codes "main" → ⊥); name = refl; args = refl; answer = inr refl };
       fields = all_one (λ (layout : ObjectLayout). 0 < length layout.fields) node (omega arith);
-      free = all_one (λ (func : Function). IsExternalName func.name → ⊥) kept free_name;
+      free = all_one (λ (func : Function). IsExternalName func.name → ⊥) kept free_main;
     };
     functions = all_one (IsTypedFunction Source) kept typed_function;
     layout_names = all_one (λ (layout : ObjectLayout). IsName layout.name) node refl;

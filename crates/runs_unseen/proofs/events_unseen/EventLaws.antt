@@ -27,8 +27,9 @@ use Rattle.moves_unseen.specs.States.{Extra, machine_of, stack_of, stacks_of, wo
 use Rattle.moves_unseen.specs.Waits.{IsSound}
 use Rattle.moves_unseen.proofs.HeapLaws.{group_held}
 use Rattle.runs_unseen.proofs.stacks_walked.WalkLaws.{stacks_walked}
-use Rattle.runs_unseen.proofs.events_unseen.TaskLaws.{set_back, stack_at, stacks_set, tasks_set, worded_at, zip_at, zip_set}
+use Rattle.runs_unseen.proofs.events_unseen.TaskLaws.{set_back, stack_at, stacks_set, tasks_set, worded_at, zip_set}
 use Rattle.list_laws.proofs.Contents.{first_same, rest_same}
+use Rattle.list_laws.proofs.Zips.{zip_at}
 
 -- a state whose running frame waits too, at its statepoint
 pub record AllWait (content : ModuleContent) (state : State) (extra : Extra) : Type 0 where

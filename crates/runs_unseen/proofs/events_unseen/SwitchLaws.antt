@@ -5,6 +5,7 @@ use Rattle.std.specs.List.{AllZip}
 use Rattle.std.specs.Option.{option_map_or}
 use Rattle.list_laws.proofs.Contents.{all_at, all_from_at, first_same, rest_same}
 use Rattle.list_laws.proofs.Places.{get_set, get_written}
+use Rattle.list_laws.proofs.Zips.{zip_at}
 use Rattle.ir_ast.specs.Modules.{ModuleContent}
 use Rattle.ir_ast.specs.Objects.{Datum, number}
 use Rattle.object_meaning.specs.Frames.{resumed}
@@ -21,7 +22,7 @@ use Rattle.moves_unseen.specs.States.{Extra, Follows, machine_of, stack_of, stac
 use Rattle.moves_unseen.specs.Waits.{IsAnswer, IsSound}
 use Rattle.runs_unseen.proofs.frames_resumed.StateLaws.{nothing_answers, resumed_follows}
 use Rattle.runs_unseen.proofs.events_unseen.EventLaws.{AllWait, machine_as}
-use Rattle.runs_unseen.proofs.events_unseen.TaskLaws.{get_other, stack_at, stacks_set, tasks_set, worded_at, worded_none, zip_at, zip_set}
+use Rattle.runs_unseen.proofs.events_unseen.TaskLaws.{get_other, stack_at, stacks_set, tasks_set, worded_at, worded_none, zip_set}
 
 -- both go on behind the group at which the running frame waits
 pub goes_on : (content : ModuleContent) → IsSound content → (machinery : Machinery) (state : State) (extra : Extra) (all : AllWait content state extra) (answer : Datum) (word : ℕ)

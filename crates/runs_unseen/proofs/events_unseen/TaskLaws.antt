@@ -1,5 +1,5 @@
 -- The tasks by number, on words: what is put and what stands at a place.
-use Rattle.std.proofs.Common.{◌≡◌, ℕ, zero, suc, List, [], ◌∷◌, get_or, set, refl, sym, ap, ◌∙◌, subst, Some, None}
+use Rattle.std.proofs.Common.{◌≡◌, ℕ, zero, suc, List, [], ◌∷◌, get_or, set, refl, sym, ap, ◌∙◌, Some, None}
 use Rattle.std.specs.Prelude.{slice_get}
 use Rattle.std.specs.List.{AllZip}
 use Rattle.std.proofs.lemmas.Option.{none-some, same_Some}
@@ -16,12 +16,6 @@ zip_set R [] (other ∷ ys) place x y all one = absurd all
 zip_set R (first ∷ xs) [] place x y all one = absurd all
 zip_set R (first ∷ xs) (other ∷ ys) zero x y all one = (one, all.1)
 zip_set R (first ∷ xs) (other ∷ ys) (suc place) x y all one = (all.0, zip_set R xs ys place x y all.1 one)
-
-pub zip_at : {A B : Type 0} (R : A → B → Type 0) (xs : List A) (ys : List B) (place : ℕ) (x : A) → AllZip R xs ys → slice_get xs place ≡ Some x → (y : B) × (slice_get ys place ≡ Some y) × R x y
-zip_at R [] ys place x all at = absurd (none-some x at)
-zip_at R (first ∷ xs) [] place x all at = absurd all
-zip_at R (first ∷ xs) (other ∷ ys) zero x all at = (other, refl, subst (λ one. R one other) (same_Some first x at) all.0)
-zip_at R (first ∷ xs) (other ∷ ys) (suc place) x all at = zip_at R xs ys place x all.1 at
 
 pub set_back : {A : Type 0} (xs : List A) (place : ℕ) (x y : A) → slice_get xs place ≡ Some x → set (set xs place y) place x ≡ xs
 set_back [] place x y at = absurd (none-some x at)

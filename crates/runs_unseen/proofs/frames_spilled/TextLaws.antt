@@ -12,7 +12,7 @@ use Rattle.ir_cfg.specs.DefiniteUses.{text_place}
 use Rattle.object_meaning.specs.Lines.{Line, following, insts_in, numbered, registers_of}
 use Rattle.object_meaning.specs.TargetRuns.{plain_lines}
 use Rattle.pair_facts.specs.Lines.{lines_at}
-use Rattle.object_meaning.proofs.LineLaws.{plain_back}
+use Rattle.object_meaning.proofs.LineLaws.{plain_from}
 
 in_text : (blocks : List BasicBlock) (number place : ℕ) (inst : Instruction)
     → slice_get (option_map_or (λ (block : BasicBlock). block.insts) (slice_get blocks number) []) place ≡ Some inst
@@ -32,4 +32,4 @@ in_text (block ∷ blocks) (suc number) place inst is =
 pub line_in_text : (func : Function) (block place : ℕ) (line : Line) → slice_get (lines_at func block) place ≡ Some line
     → slice_get (instructions_of func.blocks) (text_place func block place) ≡ Some line.inst
 line_in_text func block place line is =
-    in_text func.blocks block place line.inst (plain_back (slice_index (registers_of func) block) (insts_in func block) place line is)
+    in_text func.blocks block place line.inst (plain_from (slice_index (registers_of func) block) (insts_in func block) place line is).0

@@ -1,20 +1,14 @@
 -- What was printed on the way stands first in what a run prints.
-use Rattle.std.proofs.Common.{◌≡◌, ℕ, zero, suc, List, [], ◌∷◌, ◌++◌, sym, ap, ◌∙◌, append_assoc, append-nil}
+use Rattle.std.proofs.Common.{◌≡◌, ℕ, zero, suc, List, [], ◌∷◌, sym, ap, ◌∙◌, append-nil}
 use Rattle.sp_ids.specs.declared.ends.End.{End}
-use Rattle.object_meaning.specs.Effects.{Effect, goes_on, prints, ends, Progress, after, printed_line, text_of}
+use Rattle.object_meaning.specs.Effects.{Effect, goes_on, prints, ends, Progress, after, printed_line, text_of, PrintsMore}
 use Rattle.object_meaning.specs.Runs.{Go, End as Over, goes}
-use Rattle.object_meaning.proofs.RunLaws.{ends_at, goes_over, not_over, same_over}
+use Rattle.object_meaning.proofs.RunLaws.{ends_at, goes_over, not_over}
+use Rattle.object_meaning.proofs.OutcomeLaws.{more_lines, same_lines}
 use Rattle.machine_meaning.specs.Machines.{Machine, Machinery}
 use Rattle.machine_meaning.specs.MachineRuns.{machine_opening, machine_proceeds}
 use Rattle.machine_meaning.specs.MachineSteps.{machine_step}
-use Rattle.runs_unseen.specs.MachineEnds.{PrintedFirst, PrintsMore}
-
-same_lines : (end other : End) (machine : Machine) (lines : List (List ℕ)) (last : Progress Machine)
-    → Over end (record { state = machine; lines = lines }) ≡ Over other last → last.lines ≡ lines
-same_lines end other machine lines last is = sym (ap (λ (p : Progress Machine). p.lines) (same_over end other (record { state = machine; lines = lines }) last is).last)
-
-more_lines : (lines : List (List ℕ)) (line : List ℕ) (last : List (List ℕ)) → PrintsMore (line ∷ lines) last → PrintsMore lines last
-more_lines lines line last printed = record { more = line ++ printed.more; text = printed.text ∙ append_assoc (text_of lines) line printed.more }
+use Rattle.runs_unseen.specs.MachineEnds.{PrintedFirst}
 
 prints_more : (machinery : Machinery) (count : ℕ) (lines : List (List ℕ)) (effect : Effect Machine) (end : End) (last : Progress Machine)
     → goes (machine_proceeds machinery) count (after lines effect) ≡ Over end last → PrintsMore lines last.lines

@@ -7,12 +7,13 @@ use Rattle.std.proofs.lemmas.Option.{slice_get_within}
 use Rattle.std.proofs.Math.Seq.{drop-append-add}
 use Rattle.list_laws.proofs.Places.{get_front, get_past, get_pushed, split_at}
 use Rattle.ir_ast.specs.declared.ops.Op.{Op}
-use Rattle.ir_ast.specs.declared.ops.Op.TheVariants.{GcRelocate, GcResult, Statepoint}
+use Rattle.ir_ast.specs.declared.ops.Op.TheVariants.{Statepoint}
 use Rattle.ir_ast.specs.Blocks.{BasicBlock, EndsAtTerminator}
 use Rattle.ir_ast.specs.Faults.GroupShape.{is_statepoint}
 use Rattle.ir_ast.specs.Funcs.{instructions_of}
 use Rattle.ir_ast.specs.Insts.{Instruction}
 use Rattle.ir_ast.specs.Ops.{is_terminator}
+use Rattle.ir_ast.proofs.OpLaws.{end_member}
 use Rattle.object_meaning.specs.Frames.{is_member}
 use Rattle.frame_forms.specs.Groups.{group_size}
 use Rattle.frame_forms.proofs.ReturnLemmas.{group_stops}
@@ -25,11 +26,6 @@ ends_no_block _ is ends = cc
 pub size_is : (op : Op) (rest : List Instruction) → is_statepoint op ≡ true → group_size op rest ≡ run_of rest
 size_is (Statepoint id callee types) rest is = refl
 size_is _ rest is = cc
-
-ends_no_group : (op : Op) → is_terminator op ≡ true → is_member op ≡ false
-ends_no_group GcResult ends = cc
-ends_no_group GcRelocate ends = cc
-ends_no_group _ ends = refl
 
 run_short : (before : List Instruction) (last : Instruction) → is_member last.op ≡ false → run_of (before ++ last ∷ []) < length (before ++ last ∷ [])
 run_short [] last other = rw other (omega arith)
@@ -84,7 +80,7 @@ module _ (blocks : List BasicBlock) (block : ℕ) (own : BasicBlock) (found : sl
     pub behind_inside : length (instructions_of (take block blocks)) + (suc place + run_of (drop (suc place) own.insts)) < length (instructions_of blocks)
     behind_inside =
         let short : run_of (drop (suc place) own.insts) < length (drop (suc place) own.insts) =
-        subst (λ (rest : List Instruction). run_of rest < length rest) (sym own_rest) (run_short (drop (suc place) ended.before) ended.last (ends_no_group ended.last.op ended.ends)) in
+        subst (λ (rest : List Instruction). run_of rest < length rest) (sym own_rest) (run_short (drop (suc place) ended.before) ended.last (end_member ended.last.op ended.ends)) in
         let rest = length-drop (suc place) own.insts in
         let all = ap length whole ∙ (length-append front (own.insts ++ later) ∙ ap (λ (n : ℕ). length front + n) (length-append own.insts later)) in
         omega (arith, short, rest, all)

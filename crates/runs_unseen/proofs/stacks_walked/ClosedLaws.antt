@@ -1,6 +1,6 @@
 -- A frame that waits in a verified module: its slots hold each pair of its group, and each base of a pair is `null` or has a slot
 -- that moves with it. So the slots have the words of the same pointers after a group of moves.
-use Rattle.std.proofs.Common.{◌≡◌, ℕ, zero, suc, ◌+◌, ◌<◌, ◌≤◌, ◌==◌, ◌&&◌, ◌||◌, Bool, true, false, List, [], ◌∷◌, ◌++◌, length, map, get_or, set, refl, sym, ap, ◌∙◌, subst, arith, Option, Some, ◌⊎◌, inl, inr}
+use Rattle.std.proofs.Common.{◌≡◌, ℕ, zero, suc, ◌+◌, ◌<◌, ◌≤◌, ◌==◌, ◌&&◌, ◌||◌, Bool, true, false, List, [], ◌∷◌, length, map, get_or, set, refl, sym, ap, ◌∙◌, subst, arith, Option, Some, ◌⊎◌, inl, inr}
 use Rattle.std.specs.Prelude.{slice_get, if◌then◌else◌}
 use Rattle.std.specs.List.{AllByRecursion, Contains, flat_map, list_any}
 use Rattle.std.proofs.lemmas.Bool.{and_parts, eqb-true}
@@ -18,8 +18,6 @@ use Rattle.ir_ast.specs.Modules.{ModuleContent}
 use Rattle.ir_ast.specs.Objects.{Pointer}
 use Rattle.frame_forms.specs.FrameSizes.{frame_words}
 use Rattle.ir_cfg.specs.DefiniteUses.{text_place}
-use Rattle.ir_cfg.specs.Graphs.{graph_of}
-use Rattle.ir_cfg.specs.Paths.{Reached, along, at_entry}
 use Rattle.frame_walk.specs.Maps.{Pair}
 use Rattle.frame_walk.specs.Walks.{SlotWrite, slot_write, write_slots}
 use Rattle.move_plan.specs.declared.plan_lines.Move.{Move}
@@ -33,9 +31,9 @@ use Rattle.object_meaning.specs.Registers.{pointer_in, value}
 use Rattle.object_meaning.specs.States.{Frame}
 use Rattle.pair_facts.specs.Faults.{open_group}
 use Rattle.pair_facts.specs.Lines.{group_in, is_null, is_relocate, line_in, lines_at, operand_at}
-use Rattle.pair_facts.specs.Pairs.{Pairs, base_index, derived_index, has_base, relocates_base}
-use Rattle.pair_facts.specs.Paths.{Arrives, start, went}
+use Rattle.pair_facts.specs.Pairs.{base_index, derived_index, has_base, relocates_base}
 use Rattle.pair_facts.specs.Uses.{entries_at}
+use Rattle.pair_facts.proofs.PathLaws.{arrives_reached}
 use Rattle.machine_meaning.specs.Relations.{AreClosed, AreSlots}
 use Rattle.machine_meaning.proofs.SlotLaws.{slots_after}
 use Rattle.moves_unseen.specs.Frames.{FrameWords, IsWaiting, group_pairs, relocated_pair}
@@ -83,11 +81,6 @@ null_is operands.Null is = refl
 null_is (operands.Value at) is = cc
 null_is (operands.Int literal) is = cc
 null_is (operands.Fun func) is = cc
-
-arrives_reached : (func : Function) (block : ℕ) (front : Pairs) → Arrives func block front → Reached (graph_of func) block
-arrives_reached func _ _ start = (0 ∷ [], at_entry)
-arrives_reached func _ _ (went from to front arrives edge) =
-    let before = arrives_reached func from front arrives in (before.0 ++ to ∷ [], along before.0 from to before.1 edge)
 
 written_length : (writes : List SlotWrite) (words : List ℕ) → length (write_slots writes words) ≡ length words
 written_length [] words = refl

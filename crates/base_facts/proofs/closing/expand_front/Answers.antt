@@ -1,8 +1,9 @@
 use Rattle.std.proofs.Common.{◌≡◌, false, subst}
 use Rattle.pair_facts.specs.Pairs.{at_entry}
+use Rattle.pair_facts.proofs.PathLaws.{arrives_reached}
 use Rattle.base_facts.specs.Facts.{operand_in, base_in}
 use Rattle.base_facts.specs.Asked.{MissesFact}
-use Rattle.base_facts.proofs.ClosingLemmas.{one_fact, misses_entry, arrives_reached}
+use Rattle.base_facts.proofs.ClosingLemmas.{one_fact, misses_entry}
 use Rattle.base_facts.proofs.closing.expand_front.Goals as goal
 use Rattle.base_facts.proofs.closing.expand_front.Goals.{else-fact-eq0-via-then-fact-eq0+else-not-holds_at_entry, else-fact-eq0-via-else-fact-eq0}
 

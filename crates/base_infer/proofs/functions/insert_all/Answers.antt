@@ -7,9 +7,10 @@ use Rattle.ir_ast.specs.Funcs.{instructions_of}
 use Rattle.object_meaning.specs.Lines.{after_all}
 use Rattle.base_forms.specs.Lines.{based_blocks}
 use Rattle.base_tables.specs.Tables.{tabled}
-use Rattle.base_infer.proofs.LineLemmas.{instructions-push, within_blocks, based_block, blocks-push}
+use Rattle.base_infer.proofs.LineLemmas.{based_block, blocks-push}
 use Rattle.base_infer.proofs.functions.insert_all.Goals as goal
 use Rattle.object_meaning.proofs.LineLaws.{after_few, after_append}
+use Rattle.object_meaning.proofs.BlockLaws.{within_blocks, instructions-push}
 
 pub insert_in-requires : goal.insert_in-requires
 insert_in-requires c =

@@ -6,9 +6,10 @@ use Rattle.ir_ast.specs.Blocks.{BasicBlock}
 use Rattle.ir_ast.specs.Funcs.{instructions_of}
 use Rattle.object_meaning.specs.Lines.{after_all}
 use Rattle.folded_forms.specs.Folded.{folded_blocks}
-use Rattle.fold_tables.proofs.FoldLaws.{instructions-push, within_blocks, folded_block, blocks-push}
+use Rattle.fold_tables.proofs.FoldLaws.{folded_block, blocks-push}
 use Rattle.fold_tables.proofs.fold.folded_blocks.Goals as goal
 use Rattle.object_meaning.proofs.LineLaws.{after_few, after_append}
+use Rattle.object_meaning.proofs.BlockLaws.{within_blocks, instructions-push}
 
 pub folded_block-requires-clause-few : goal.folded_block-requires-clause-few
 folded_block-requires-clause-few c =

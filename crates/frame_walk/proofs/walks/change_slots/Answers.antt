@@ -1,7 +1,6 @@
-use Rattle.std.proofs.Common.{◌≡◌, ℕ, List, ◌∷◌, sym, ap, ◌∙◌}
+use Rattle.std.proofs.Common.{◌≡◌, ℕ, List, sym, ap, ◌∙◌}
 use Rattle.std.specs.Prelude.{map, slice_index, slice_set}
 use Rattle.frame_walk.specs.Maps.{Pair, pairs_from}
-use Rattle.frame_walk.specs.Pairs.{pair_of}
 use Rattle.frame_walk.specs.Walks.{write_slots, slot_write, carried_word}
 use Rattle.frame_walk.proofs.walks.change_slots.Goals as goal
 

@@ -60,8 +60,8 @@ returns-in-None-clause-module c =
     c.in_ok-text.ensures.whole in
     module-paths c.args.raw c.into_lines.ensures.read c.in_ok-text.text.whole is none c.with_paths.result c.with_paths.ensures
 
-pub returns-in-None-clause-text : goal.returns-in-None-clause-text
-returns-in-None-clause-text c =
+pub returns-in-None-clause-few_instructions : goal.returns-in-None-clause-few_instructions
+returns-in-None-clause-few_instructions c =
     let noted = text-noted c.args.raw c.form-form.result c.into_lines.result c.form-form.ensures c.into_lines.ensures.lines c.in_ok-text.text.fault c.in_ok-fault.field-0
     c.in_ok-text.text.whole c.in_ok-text.text.cases.items c.as_slice.result.now c.in_ok-text.ensures.whole c.in_ok-text.ensures.cases c.as_slice.ensures.value
     c.in_ok-text.ensures.fault c.in_ok-fault.ensures in

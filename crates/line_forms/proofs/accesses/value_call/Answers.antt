@@ -5,6 +5,7 @@ use Rattle.line_forms.specs.declared.forms.Form.TheVariants as forms
 use Rattle.line_parts.specs.Gives.{after}
 use Rattle.line_parts.specs.Parts.{word_at, allowed_type_at, is_value_type}
 use Rattle.line_parts.specs.Lists.{called_at}
+use Rattle.line_parts.specs.Bundles.{deopt_at}
 use Rattle.line_forms.specs.Slots.{part, parse}
 use Rattle.line_forms.specs.Forms.{fit}
 use Rattle.line_forms.specs.Seen.{line_at}
@@ -32,6 +33,13 @@ returns-in_err-callee c =
     rw (p.1, p.2) (stops_whole c.in_err-callee.field-0.0 (called_at c.value_type.new.self) (line_at forms.ValueCall c.args.cursor.now)
     (λ h. rw (c.in_ok-result.ensures, c.in_ok-mark.ensures, ← c.skip.ensures, c.in_ok-word.ensures, ← c.skip-2.ensures, c.in_ok-answer.ensures, h) refl) c.in_err-callee.ensures)
 
+pub returns-in_err-kept : goal.returns-in_err-kept
+unfolding line_at fit parse part after
+returns-in_err-kept c =
+    let p = err_from_is_err_and c.from_residual-in_err-kept.result c.from_residual-in_err-kept.ensures.1 in
+    rw (p.1, p.2) (stops_whole c.in_err-kept.field-0.0 (deopt_at c.skip-3.new.self) (line_at forms.ValueCall c.args.cursor.now)
+    (λ h. rw (c.in_ok-result.ensures, c.in_ok-mark.ensures, ← c.skip.ensures, c.in_ok-word.ensures, ← c.skip-2.ensures, c.in_ok-answer.ensures, c.in_ok-callee.ensures, ← c.skip-3.ensures, h) refl) c.in_err-kept.ensures)
+
 pub returns : goal.returns
 unfolding line_at fit parse part after
-returns c = rw (c.in_ok-result.ensures, c.in_ok-mark.ensures, ← c.skip.ensures, c.in_ok-word.ensures, ← c.skip-2.ensures, c.in_ok-answer.ensures, c.in_ok-callee.ensures, ← c.skip-3.ensures, ← c.skip-4.ensures) refl
+returns c = rw (c.in_ok-result.ensures, c.in_ok-mark.ensures, ← c.skip.ensures, c.in_ok-word.ensures, ← c.skip-2.ensures, c.in_ok-answer.ensures, c.in_ok-callee.ensures, ← c.skip-3.ensures, c.in_ok-kept.ensures, ← c.skip-4.ensures) refl

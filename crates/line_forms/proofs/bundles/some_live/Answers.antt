@@ -2,7 +2,7 @@ use Rattle.std.proofs.Common.{sym, ◌∙◌, arith}
 use Rattle.std.specs.Prelude.{codes, map}
 use Rattle.std.proofs.lemmas.Result.{err_from_is_err_and}
 use Rattle.line_parts.specs.Lists.{comma}
-use Rattle.line_parts.specs.Groups.{live_entry_at}
+use Rattle.line_parts.specs.Bundles.{live_entry_at}
 use Rattle.line_tokens.specs.Marks.{is_mark}
 use Rattle.std.proofs.lemmas.List.{map_push}
 use Rattle.line_parts.specs.Seen.{seen_value}

@@ -1,7 +1,7 @@
 use Rattle.line_parts.proofs.Notes.{count}
 use Rattle.std.specs.Prelude.{map}
 use Rattle.line_parts.specs.Lists.{comma}
-use Rattle.line_parts.specs.Groups.{live_entry_at}
+use Rattle.line_parts.specs.Bundles.{live_entry_at}
 use Rattle.line_parts.specs.Seen.{seen_value}
 use Rattle.line_parts.proofs.Listing.{Reached}
 use Rattle.line_forms.proofs.bundles.some_live.Given as goal

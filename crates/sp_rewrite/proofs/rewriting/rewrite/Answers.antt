@@ -7,7 +7,6 @@ use Rattle.ir_cfg.proofs.TypedLemmas.{formed_module}
 use Rattle.base_forms.specs.Polls.{placed}
 use Rattle.rewrite_passes.specs.Before.{CanBegin, made_of, relocates_of}
 use Rattle.sp_rewrite.specs.Statements.{IsRewritten}
-use Rattle.sp_rewrite.proofs.BareLaws.{no_bundle}
 use Rattle.sp_rewrite.proofs.CallLaws.{can_begin, can_have_groups, few_relocates, is_rewritten, many_relocates}
 use Rattle.sp_rewrite.proofs.RewrittenLaws as laws
 use Rattle.sp_rewrite.proofs.rewriting.rewrite.Goals as goal
@@ -80,6 +79,3 @@ returns-in-None-clause-many c = λ _.
     let funcs_are = c.into_parts-layouts.ensures.funcs in
     let many = subst (λ made. IfNone made (4194304 < sum (map (λ func. relocates_of (placed func)) funcs))) c.in-None.is c.in_ok-before_groups.ensures.many in
     many_relocates c.args.source.content c.in_ok-reached.reached.content c.in_ok-reached.ensures.drops funcs funcs_are many
-
-pub returns-in_ok-after-in-Some-clause-no_bundle : goal.returns-in_ok-after-in-Some-clause-no_bundle
-returns-in_ok-after-in-Some-clause-no_bundle c = no_bundle c.args.source.content c.proved.result.content (returns-in_ok-after-in-Some-clause-rewritten c)

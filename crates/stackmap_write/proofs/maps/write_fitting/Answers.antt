@@ -5,10 +5,10 @@ use Rattle.ir_ast.specs.Funcs.{content_of}
 use Rattle.map_bytes.specs.Maps.{record_bytes}
 use Rattle.stackmap_write.specs.Constants.{constants_of}
 use Rattle.stackmap_write.specs.ModuleMaps.{records_of}
-use Rattle.stackmap_write.proofs.EntryLemmas.{length-laid_from}
 use Rattle.stackmap_write.proofs.MapLemmas.{at_end, written}
 use Rattle.stackmap_write.proofs.RecordLemmas.{function_step, put_step, fits_front, fits_back}
 use Rattle.stackmap_write.proofs.maps.write_fitting.Goals as goal
+use Rattle.frame_forms.proofs.LayoutLemmas.{length-laid_from}
 
 pub put_heads-requires-clause-few_functions : goal.put_heads-requires-clause-few_functions
 put_heads-requires-clause-few_functions c =

@@ -3,9 +3,9 @@ use Rattle.std.proofs.lemmas.List.{length-map}
 use Rattle.ir_ast.specs.Funcs.{content_of}
 use Rattle.stackmap_write.specs.Constants.{constants_of}
 use Rattle.stackmap_write.specs.ModuleMaps.{entries_of}
-use Rattle.stackmap_write.proofs.EntryLemmas.{length-laid_from}
 use Rattle.stackmap_write.proofs.SizeLemmas.{function_sizes, map_length, map_short}
 use Rattle.stackmap_write.proofs.sizes.map_size.Goals as goal
+use Rattle.frame_forms.proofs.LayoutLemmas.{length-laid_from}
 
 pub entry_count-requires : goal.entry_count-requires
 entry_count-requires c =

@@ -1,4 +1,4 @@
-use Rattle.std.proofs.Common.{◌+◌, ℕ, List, ◌∷◌, drop, sym, ap, ◌∙◌, arith}
+use Rattle.std.proofs.Common.{◌+◌, ℕ, List, ◌∷◌, sym, ap, ◌∙◌, arith}
 use Rattle.frame_walk.specs.Maps.{Pair, pairs_from, word_place}
 use Rattle.frame_walk.proofs.RecordLemmas.{pair_step, pairs_end}
 use Rattle.frame_walk.proofs.pairs.SlotPair.at.Goals as goal

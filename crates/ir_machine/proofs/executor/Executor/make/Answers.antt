@@ -20,10 +20,11 @@ use Rattle.machine_meaning.specs.Machines.{Machine}
 use Rattle.machine_meaning.specs.MachineTasks.{allocating_machine}
 use Rattle.machine_meaning.specs.Moving.{moves_due}
 use Rattle.machine_meaning.specs.Words.{worded_operand}
-use Rattle.ir_machine.specs.Executors.{effect_of, machinery, seen, told}
+use Rattle.ir_machine.specs.Executors.{machinery, seen, told}
 use Rattle.ir_machine.specs.Events.{placed}
 use Rattle.ir_machine.proofs.EventLemmas.{happen_is, lent_moves}
 use Rattle.ir_machine.proofs.executor.Executor.make.Goals as goal
+use Rattle.run_tasks.specs.Dids.{effect_of}
 
 pub returns : goal.returns
 returns c =

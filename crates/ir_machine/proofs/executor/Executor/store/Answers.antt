@@ -7,11 +7,12 @@ use Rattle.object_meaning.specs.Lines.{following}
 use Rattle.object_meaning.specs.Registers.{number_in}
 use Rattle.machine_meaning.specs.MachineSteps.{at, denied, storing_word}
 use Rattle.machine_lines.specs.Lines.{line_of, lines_left}
-use Rattle.ir_machine.specs.Executors.{acts_at, effect_of, machinery, seen, told}
+use Rattle.ir_machine.specs.Executors.{acts_at, machinery, seen, told}
 use Rattle.machine_lines.specs.Going.{still}
 use Rattle.machine_lines.proofs.DeniedLemmas.{store_denied}
 use Rattle.machine_lines.proofs.AccessLemmas.{done_err}
 use Rattle.ir_machine.proofs.executor.Executor.store.Goals as goal
+use Rattle.run_tasks.specs.Dids.{effect_of}
 
 pub returns-in-Err : goal.returns-in-Err
 returns-in-Err c =
